@@ -15,11 +15,11 @@ use Rattle.rev_types.proofs.Named.{outer_names}
 use Rattle.rev_types.specs.Judgement.{StatementTyped, StatementsTyped, ArmsTyped, DeclarationsTyped, ProgramTyped}
 use Rattle.rev_types.specs.Scopes.{locals_after, outside, within, with_params, bound}
 use Rattle.rev_types.proofs.Scopes.{statement_scope}
-use Rattle.rev_affine.specs.Affine.{Breach, copied, stored, used_twice, in_loop, number, Breaks, IsAffine, IsFirstBroken}
-use Rattle.rev_affine.specs.Live.{statement_passes}
-use Rattle.rev_affine.specs.SecondUses.{ahead, twice, statement_twice, arms_twice}
-use Rattle.rev_affine.specs.Places.{copies, stores, loop_uses, statement_loop_uses, arms_loop_uses, outer_uses, body_places, declarations_places, places}
-use Rattle.rev_affine.proofs.Places.{places_found, places_sound}
+use Rattle.affine_check.specs.Affine.{Breach, copied, stored, used_twice, in_loop, number, Breaks, IsAffine, IsFirstBroken}
+use Rattle.affine_check.specs.Live.{statement_passes}
+use Rattle.affine_check.specs.SecondUses.{ahead, twice, statement_twice, arms_twice}
+use Rattle.affine_check.specs.Places.{copies, stores, loop_uses, statement_loop_uses, arms_loop_uses, outer_uses, body_places, declarations_places, places}
+use Rattle.affine_check.proofs.Places.{places_found, places_sound}
 use Rattle.affine_check.specs.declared.fault.AffineFault.{AffineFault}
 use Rattle.affine_check.specs.declared.fault.AffineFault.TheVariants.{Copied, Stored, UsedTwice, InLoop, OutOfMemory}
 use Rattle.affine_check.specs.Faults.{place, rank, Refuses}

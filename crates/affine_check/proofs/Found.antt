@@ -7,9 +7,9 @@ use Rattle.merge_decl.specs.Table.{find}
 use Rattle.rev_kinds.specs.declared.names.Holder.{Holder}
 use Rattle.rev_kinds.specs.Kinds.{Names, Locals}
 use Rattle.rev_types.specs.Scopes.{locals_after, bound}
-use Rattle.rev_affine.specs.Live.{statement_passes}
-use Rattle.rev_affine.specs.SecondUses.{if_rev}
-use Rattle.rev_affine.specs.Places.{if_stores, names_in, expression_form_names, expressions_names, links_names, pick_names, expression_form_pick_names, expressions_pick_names, links_pick_names, right_side_copies, items_copies, value_copies, copies, statement_copies, statement_form_copies, arms_copies, name_stores, stores, statement_stores, statement_form_stores, arms_stores}
+use Rattle.affine_check.specs.Live.{statement_passes}
+use Rattle.affine_check.specs.SecondUses.{if_rev}
+use Rattle.affine_check.specs.Places.{if_stores, names_in, expression_form_names, expressions_names, links_names, pick_names, expression_form_pick_names, expressions_pick_names, links_pick_names, right_side_copies, items_copies, value_copies, copies, statement_copies, statement_form_copies, arms_copies, name_stores, stores, statement_stores, statement_form_stores, arms_stores}
 use Rattle.affine_check.specs.declared.fault.AffineFault.TheVariants.{Copied, Stored}
 use Rattle.affine_check.specs.Walk.{Fault, both, when, is_handle, copied, copied_form, copied_args, copied_links, copied_right, copied_value, copied_items, stored_in, stored, misused, broken_statement, broken_form, broken_in, broken_arms}
 use Rattle.affine_check.proofs.Bounds.{or-assoc, or-false, upto, meets, any, any-append, meets-both}

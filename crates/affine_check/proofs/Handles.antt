@@ -16,9 +16,9 @@ use Rattle.rev_kinds.specs.Typing.{HasKind, ScalarHas, ArgsHave}
 use Rattle.rev_types.specs.Judgement.{RightSideHas, ReturnTyped, StatementTyped, StatementFormTyped, StatementsTyped, ArmsTyped}
 use Rattle.rev_types.specs.Scopes.{locals_after, bound}
 use Rattle.rev_types.proofs.Scopes.{statement_scope}
-use Rattle.rev_affine.specs.Live.{statement_passes}
-use Rattle.rev_affine.specs.SecondUses.{expression_places, expressions_places, right_side_places, value_places, ahead, statement_ahead, statement_form_ahead, arms_ahead, if_rev, expression_twice, expressions_twice, right_side_twice, value_twice, twice, statement_twice, statement_form_twice, arms_twice}
-use Rattle.rev_affine.proofs.Meaning.{kept, still_free}
+use Rattle.affine_check.specs.Live.{statement_passes}
+use Rattle.affine_check.specs.SecondUses.{expression_places, expressions_places, right_side_places, value_places, ahead, statement_ahead, statement_form_ahead, arms_ahead, if_rev, expression_twice, expressions_twice, right_side_twice, value_twice, twice, statement_twice, statement_form_twice, arms_twice}
+use Rattle.affine_check.proofs.Meaning.{kept, still_free}
 use Rattle.affine_check.specs.declared.fault.AffineFault.{AffineFault}
 use Rattle.affine_check.specs.declared.fault.AffineFault.TheVariants.{UsedTwice}
 use Rattle.affine_check.specs.Walk.{is_handle, named, start, trail, misused}

@@ -10,9 +10,9 @@ use Rattle.merge_decl.specs.Table.{find}
 use Rattle.merge_decl.proofs.Tables.{same_equal}
 use Rattle.rev_kinds.specs.Kinds.{Names, Locals}
 use Rattle.rev_types.specs.Scopes.{locals_after}
-use Rattle.rev_affine.specs.Live.{statement_passes}
-use Rattle.rev_affine.specs.SecondUses.{if_rev}
-use Rattle.rev_affine.specs.Places.{use_places, uses_places, right_side_use_places, value_use_places, outer_uses, statement_outer_uses, statement_form_outer_uses, arms_outer_uses, loop_uses, statement_loop_uses, statement_form_loop_uses, arms_loop_uses}
+use Rattle.affine_check.specs.Live.{statement_passes}
+use Rattle.affine_check.specs.SecondUses.{if_rev}
+use Rattle.affine_check.specs.Places.{use_places, uses_places, right_side_use_places, value_use_places, outer_uses, statement_outer_uses, statement_form_outer_uses, arms_outer_uses, loop_uses, statement_loop_uses, statement_form_loop_uses, arms_loop_uses}
 use Rattle.affine_check.specs.declared.fault.AffineFault.TheVariants.{InLoop}
 use Rattle.affine_check.specs.Walk.{named}
 use Rattle.affine_check.proofs.Bounds.{or-false, upto, any}

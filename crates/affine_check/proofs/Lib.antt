@@ -1,6 +1,19 @@
+-- Proofs of affine_check: the checker of the affine rule, exact in what it accepts and in the first breach.
 pub mod Bounds
 pub mod Trails
 pub mod Found
 pub mod Handles
 pub mod InLoops
 pub mod Decided
+pub mod Counts
+pub mod Readings
+pub mod Scopes
+pub mod Steps
+pub mod JoinStep
+pub mod Freedom
+pub mod Paths
+pub mod Exact
+pub mod Sound
+pub mod Places
+pub mod Meaning
+pub mod ExampleProofs

@@ -1,8 +1,8 @@
 -- The breaches of the affine rule as faults: `place` and `rank` order them, `Refuses` says when one is right.
 use Rattle.std.specs.Prelude.{ℕ}
 use Rattle.rev_syntax.specs.Trees.{ProgramTree}
-use Rattle.rev_affine.specs.Affine.{copied, stored, used_twice, in_loop}
-use Rattle.rev_affine.specs.Laws.{IsRefused}
+use Rattle.affine_check.specs.Affine.{copied, stored, used_twice, in_loop}
+use Rattle.affine_check.specs.Laws.{IsRefused}
 use Rattle.affine_check.specs.declared.fault.AffineFault.{AffineFault}
 use Rattle.affine_check.specs.declared.fault.AffineFault.TheVariants.{Copied, Stored, UsedTwice, InLoop, OutOfMemory}
 

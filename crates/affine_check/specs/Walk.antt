@@ -13,7 +13,7 @@ use Rattle.merge_decl.specs.Table.{find}
 use Rattle.rev_kinds.specs.declared.names.Holder.{Holder}
 use Rattle.rev_kinds.specs.Kinds.{Names, Locals}
 use Rattle.rev_types.specs.Scopes.{locals_after, outside, with_params, bound}
-use Rattle.rev_affine.specs.Live.{statement_passes}
+use Rattle.affine_check.specs.Live.{statement_passes}
 use Rattle.affine_check.specs.declared.fault.AffineFault.{AffineFault}
 use Rattle.affine_check.specs.declared.fault.AffineFault.TheVariants.{Copied, Stored, UsedTwice, InLoop}
 use Rattle.affine_check.specs.declared.trail.Trail.{Trail}

@@ -9,9 +9,9 @@ ghost use Rattle.merge_decl.specs.Table.{find};
 ghost use Rattle.rev_kinds.specs.Walk.{names_of};
 ghost use Rattle.rev_types.specs.Scopes as scopes;
 ghost use Rattle.revision_calculus.specs.Program.{Setting};
-ghost use Rattle.rev_affine.specs.Affine.{IsAffine};
-ghost use Rattle.rev_affine.specs.Laws.{NeverTwice};
-ghost use Rattle.rev_affine.specs.Live.{arms_pass, passes, statement_form_passes, statement_passes};
+ghost use Rattle.affine_check.specs.Affine.{IsAffine};
+ghost use Rattle.affine_check.specs.Laws.{NeverTwice};
+ghost use Rattle.affine_check.specs.Live.{arms_pass, passes, statement_form_passes, statement_passes};
 ghost use Rattle.affine_check.specs.Faults.{Refuses};
 ghost use Rattle.affine_check.specs.Walk as rule;
 

@@ -9,7 +9,7 @@ use std::alloc::AllocError;
 
 /// A breach of the affine rule, with its place, in the order of their numbers; or no memory was
 /// left.
-#[derive(Clone, Copy, PartialEq, Eq, Debug, Drop)]
+#[derive(Clone, Copy, Drop)]
 pub enum AffineFault {
     /// A handle's name in a plain right side or in a part of a `pick`.
     Copied { at: u32 },

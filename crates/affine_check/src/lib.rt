@@ -6,8 +6,12 @@
 
 mod checker;
 mod copies;
+mod examples;
 mod fault;
+mod laws;
 mod trail;
 
 pub use checker::affine;
+pub use examples::{affine_programs, other_programs};
 pub use fault::AffineFault;
+pub use laws::{affine_laws, place_laws, second_use_law};

@@ -9,7 +9,7 @@ use Rattle.revision_calculus.specs.Program.{Setting}
 use Rattle.revision_calculus.specs.State.{Local}
 use Rattle.revision_calculus.specs.Calculus.{calculus, main}
 use Rattle.revision_calculus.specs.Kinded.{IsAccepted}
-use Rattle.rev_affine.specs.Laws.{NeverTwice}
+use Rattle.affine_check.specs.Laws.{NeverTwice}
 use Rattle.code_machine.specs.Local as code
 use Rattle.code_machine.specs.Machines.{numbered, IsMain, start_in}
 use Rattle.generated_blocks.proofs.Accepted.{code_accepted}

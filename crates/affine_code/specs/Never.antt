@@ -4,8 +4,8 @@
 use Rattle.std.specs.Prelude.{ℕ}
 use Rattle.revision_calculus.specs.Program.{Setting}
 use Rattle.revision_calculus.specs.Kinded.{IsAccepted}
-use Rattle.rev_affine.specs.Affine.{IsAffine}
-use Rattle.rev_affine.specs.Laws.{NeverTwice}
+use Rattle.affine_check.specs.Affine.{IsAffine}
+use Rattle.affine_check.specs.Laws.{NeverTwice}
 use Rattle.program_meaning.specs.Related.{run_of}
 use Rattle.code_machine_laws.specs.Texts.{NeverJoinsTwice}
 

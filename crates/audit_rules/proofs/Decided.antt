@@ -8,8 +8,8 @@ use Rattle.revision_machine.specs.Conditions.{Counts, Spends}
 use Rattle.revision_machine.specs.Laws.{IsIn}
 use Rattle.rev_num.proofs.PostOrder.{before_trans, before_irrefl}
 use Rattle.audit_rules.specs.Audited.{Telling, Computed, absent, made, joined_twice, missing, Alone, Passes, at_first, Computes, ends, at_twice, at_missing, goes, Begins, of_main, of_fork, IsComputed, of_none, of_run, IsSame, Justified, IsYes, IsNo, Tells}
-use Rattle.audit_rules.proofs.Own.{none_some, in_front, step_goes, step_takes, Headed, stands, steps, headed, either_way, passes_forks, begins_one}
-use Rattle.audit_rules.proofs.Total.{Ends, own_run_ends, passes_from, Begun, begun, computed}
+use Rattle.audit_rules.proofs.OneOwnRun.{none_some, in_front, step_goes, step_takes, Headed, stands, steps, headed, either_way, passes_forks, begins_one}
+use Rattle.audit_rules.proofs.PartsExist.{Ends, own_run_ends, passes_from, Begun, begun, computed}
 
 in_back : (t : Path) (ps qs : List Path) → IsIn t qs → IsIn t (ps ++ qs)
 in_back t [] qs i = i

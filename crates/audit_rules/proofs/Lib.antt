@@ -1,14 +1,15 @@
-pub mod Own
-pub mod After
+-- Proofs of audit_rules: the audit of a trace.
+pub mod OneOwnRun
+pub mod AfterSteps
 pub mod Theorem
-pub mod Noted
-pub mod Told
-pub mod Apart
-pub mod Meets
+pub mod NotedEvents
+pub mod ToldSuffices
+pub mod PlacesApart
+pub mod CalculusMeets
 pub mod OwnRuns
-pub mod Traced
-pub mod Total
+pub mod TracesAsParts
+pub mod PartsExist
 pub mod Decided
 pub mod SameParts
-pub mod Listed
+pub mod FinalTraces
 pub mod Verdicts

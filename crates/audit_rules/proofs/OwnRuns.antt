@@ -11,7 +11,7 @@ use Rattle.revision_calculus.specs.State.{Phase, done, trapped, Local}
 use Rattle.revision_calculus.specs.Step.{by_phase, next}
 use Rattle.revision_calculus.specs.Join.{join}
 use Rattle.revision_calculus.specs.Calculus.{main, calculus}
-use Rattle.revision_calculus.specs.Kept.{IsAtWork, IsTrapBelow, IsShaped}
+use Rattle.revision_calculus.specs.KeptBySteps.{IsAtWork, IsTrapBelow, IsShaped}
 use Rattle.revision_calculus.specs.Kinded.{IsAccepted, location_kinds, FramesAt, names, IsKinded}
 use Rattle.revision_calculus.proofs.Joining.{JoinOk, join_forks}
 use Rattle.revision_calculus.proofs.Meets.{joins_ok, spends_forks}
@@ -20,10 +20,10 @@ use Rattle.revision_calculus.proofs.StepKinds.{kind_kept, main_kinded}
 use Rattle.audit_rules.specs.Audited.{taken, Alone, by_move, by_fork, by_join, Passes, at_first, then_by, Begins, of_main, of_fork}
 use Rattle.trace_diagram.specs.declared.diagram.Part.{Part}
 use Rattle.audit_rules.specs.Parts.{places, told_phase, told, changes_fit, takes_in, takes, calculus_parts, OwnFits, OwnRunsFit}
-use Rattle.audit_rules.proofs.Own.{none_some}
-use Rattle.audit_rules.proofs.Told.{taken_kinded, told_is_ended, told_below}
-use Rattle.audit_rules.proofs.Apart.{places_apart}
-use Rattle.audit_rules.proofs.Meets.{places_length}
+use Rattle.audit_rules.proofs.OneOwnRun.{none_some}
+use Rattle.audit_rules.proofs.ToldSuffices.{taken_kinded, told_is_ended, told_below}
+use Rattle.audit_rules.proofs.PlacesApart.{places_apart}
+use Rattle.audit_rules.proofs.CalculusMeets.{places_length}
 pub use Rattle.revision_calculus.proofs.LocationKinds.{are_length}
 
 module _ (s : Setting) (well : IsAccepted s.program) (fuel : ℕ) where

@@ -11,11 +11,11 @@ use Rattle.rev_num.proofs.PostOrder.{before_irrefl}
 use Rattle.revision_machine.proofs.Way.{put_two, Way, writes, twice, way, Place, own, new, marks, place, ended_apart}
 use Rattle.revision_machine.proofs.Diamond.{two_here, two_there}
 use Rattle.revision_machine.proofs.Totals.{amount_two}
-use Rattle.revision_machine.proofs.Kept.{kept_law}
+use Rattle.revision_machine.proofs.KeptByEvents.{kept_law}
 use Rattle.revision_machine.proofs.Ends.{along}
 use Rattle.audit_rules.specs.Audited.{Telling, Computed, absent, made, joined_twice, missing, JoinedEarlier, IsTwice, taken, Alone, by_move, by_fork, by_join, Passes, at_first, then_by, Computes, ends, at_twice, at_missing, goes, Begins, of_main, of_fork, IsComputed, of_none, of_run, IsSame, Justified, IsYes, IsNo, Shows, IsTraceOf, Tells, YesIsTrue, TraceIsYes, OneComputed, OneVerdict}
-use Rattle.audit_rules.proofs.Own.{none_some, fork_end, one_result, passes_computes, computes_since, computes_end, made_goes, either_way, Headed, stands, steps, headed, step_goes, forked_since, takes_lists, computed_lists, passes_once, begins_one, in_last, begins_none}
-use Rattle.audit_rules.proofs.After.{plain_joined, Later, stepper, newborn, joinee, old, later, IsListed, IsListing, listing, on_by_one, Stays, stays, from_twice}
+use Rattle.audit_rules.proofs.OneOwnRun.{none_some, fork_end, one_result, passes_computes, computes_since, computes_end, made_goes, either_way, Headed, stands, steps, headed, step_goes, forked_since, takes_lists, computed_lists, passes_once, begins_one, in_last, begins_none}
+use Rattle.audit_rules.proofs.AfterSteps.{plain_joined, Later, stepper, newborn, joinee, old, later, IsListed, IsListing, listing, on_by_one, Stays, stays, from_twice}
 
 -- what a machine gives to the theorem
 pub record Audits (M : Machine) (T : Telling M) (P : Path → M.Local → Type 0) (of : M.Local → ℕ)

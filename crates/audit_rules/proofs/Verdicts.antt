@@ -12,7 +12,7 @@ use Rattle.audit_rules.specs.Verdicts.{Audits, EachHasOne, HasOneVerdict, TraceI
 use Rattle.audit_rules.specs.declared.verdict.Computed.TheVariants as computed
 use Rattle.audit_rules.specs.declared.verdict.Verdict.{Verdict}
 use Rattle.audit_rules.specs.declared.verdict.Verdict.TheVariants as verdict
-use Rattle.audit_rules.proofs.Traced.{has_verdict, trace_has_yes, verdict_is_one, yes_tells}
+use Rattle.audit_rules.proofs.TracesAsParts.{has_verdict, trace_has_yes, verdict_is_one, yes_tells}
 
 pub in_post_order : (ps : List Part) → MainIsLast ps → InPostOrder ps
 in_post_order [] h = tt

@@ -1,3 +1,4 @@
+-- Definitions of audit_rules: the audit of a trace.
 pub mod Audited
 pub mod Parts
 pub mod Traces

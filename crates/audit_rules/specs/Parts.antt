@@ -16,7 +16,7 @@ use Rattle.revision_calculus.specs.State.{Location, Noted, forked, joined, Phase
 use Rattle.revision_calculus.specs.Join.{join}
 use Rattle.revision_calculus.specs.Calculus.{main, calculus}
 use Rattle.revision_calculus.specs.Outcome.{show_all}
-use Rattle.revision_calculus.specs.Kept.{IsShaped}
+use Rattle.revision_calculus.specs.KeptBySteps.{IsShaped}
 use Rattle.revision_calculus.specs.Kinded.{location_kinds, IsKinded}
 use Rattle.trace_diagram.specs.Shown.{shown_part}
 use Rattle.trace_diagram.specs.declared.diagram.Part.{Part}

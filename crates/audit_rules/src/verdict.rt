@@ -5,7 +5,7 @@ use trace_diagram::Part;
 
 /// The trace is that of the run, or this is the first revision in post-order whose stated and
 /// computed parts differ.
-#[derive(Debug, Drop)]
+#[derive(Drop)]
 pub enum Verdict {
     Yes,
     No {
@@ -16,7 +16,7 @@ pub enum Verdict {
 }
 
 /// What comes of a revision's own run.
-#[derive(Debug, Drop)]
+#[derive(Drop)]
 pub enum Computed {
     /// Nothing begins it: it is not `main`, and no own run of a revision with a stated part forks
     /// it.

@@ -2,8 +2,8 @@
 use Rattle.std.proofs.Common.{◌≡◌, ℕ, suc, List, ◌∷◌, Option, Some, refl, sym, subst}
 use Rattle.rev_num.specs.Words.{int_of}
 use Rattle.rev_code.specs.Variables.{Place, cell_at}
-use Rattle.plain_words.specs.Plain as p
-use Rattle.plain_words.specs.Plain.{Run}
+use Rattle.block_run.specs.Plain as p
+use Rattle.block_run.specs.Plain.{Run}
 use Rattle.block_run.specs.Area.{Ran}
 use Rattle.block_run.specs.Remembering.{Kept}
 use Rattle.block_run.proofs.Stacks.{with_parts}

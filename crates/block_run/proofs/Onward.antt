@@ -8,8 +8,8 @@ use Rattle.rev_code.specs.State.{Location, State, seen_at, written_at, seen}
 use Rattle.rev_code.specs.Step.{Comes, goes, traps, forks, joins, ends, stuck}
 use Rattle.code_soundness.proofs.Basics.{some_eq, some_within}
 use Rattle.version_map.specs.Overlay.{word_or}
-use Rattle.plain_words.specs.Plain.{Run, Plain, moves, writes, faults, leaves, lacks}
-use Rattle.plain_words.specs.Agreement.{IsWord, AreWords, IsRun, IsMoved, Agrees}
+use Rattle.block_run.specs.Plain.{Run, Plain, moves, writes, faults, leaves, lacks}
+use Rattle.block_run.specs.Agreement.{IsWord, AreWords, IsRun, IsMoved, Agrees}
 use Rattle.block_run.specs.Area.{stack_of, Ran}
 use Rattle.block_run.specs.Remembering.{Kept, Wrote}
 use Rattle.block_run.specs.Standing.{IsSeen, AreSeen, SameElse}

@@ -3,8 +3,8 @@ use Rattle.std.proofs.Common.{◌≡◌, ◌≢◌, ℕ, zero, suc, ◌+◌, ◌
 use Rattle.std.proofs.lemmas.List.{take-set-le, drop-set-add}
 use Rattle.std.proofs.Math.Seq.{take-set-lt}
 use Rattle.rev_code.specs.declared.code.CodeBlock.{CodeBlock}
-use Rattle.plain_words.specs.Plain.{Run, moves}
-use Rattle.plain_words.specs.Plain as p
+use Rattle.block_run.specs.Plain.{Run, moves}
+use Rattle.block_run.specs.Plain as p
 use Rattle.block_run.specs.declared.registers.Registers.{Registers}
 use Rattle.block_run.specs.declared.registers.Stop.TheVariants as stop
 use Rattle.block_run.specs.Area.{stack_of, low, run_of, IsAct}

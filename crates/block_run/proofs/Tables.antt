@@ -11,7 +11,7 @@ use Rattle.code_rules.specs.Tables as rules
 use Rattle.code_rules.proofs.Limits.{small_parts}
 use Rattle.code_soundness.proofs.Basics.{and_parts}
 use Rattle.code_soundness.proofs.Lists.{all_at}
-use Rattle.code_soundness.specs.Whole.{IsAccepted, notes_of}
+use Rattle.code_soundness.specs.AcceptedCode.{IsAccepted, notes_of}
 use Rattle.block_run.specs.declared.registers.Variable.{Variable}
 use Rattle.block_run.specs.Area.{count, table_from, IsListed, IsTable}
 

@@ -17,21 +17,21 @@ use Rattle.code_soundness.proofs.Basics.{or_parts, not_false, and_false, some_eq
 use Rattle.code_soundness.specs.Typed.{IsTyped}
 use Rattle.code_soundness.specs.Funs.{IsFunStep}
 use Rattle.code_soundness.proofs.Evaluating.{fun_step}
-use Rattle.code_soundness.specs.Whole.{IsAccepted, notes_of}
+use Rattle.code_soundness.specs.AcceptedCode.{IsAccepted, notes_of}
 use Rattle.code_soundness.proofs.Lists.{kinds_length}
 use Rattle.code_soundness.proofs.Places.{operand_good}
 use Rattle.code_soundness.proofs.Reaching.{has_step, is_safe}
-use Rattle.plain_words.specs.Plain.{Run, Plain, moves, writes, faults, leaves, lacks, plain}
-use Rattle.plain_words.specs.Agreement.{IsRun, Agrees, AreInputs, PushesInt}
-use Rattle.plain_words.proofs.Rows.{rows}
+use Rattle.block_run.specs.Plain.{Run, Plain, moves, writes, faults, leaves, lacks, plain}
+use Rattle.block_run.specs.Agreement.{IsRun, Agrees, AreInputs, PushesInt}
+use Rattle.block_run.proofs.Rows.{rows}
 use Rattle.block_run.specs.declared.registers.Registers.{Registers}
 use Rattle.block_run.specs.declared.registers.Stop.{Stop}
 use Rattle.block_run.specs.declared.registers.Stop.TheVariants as stop
 use Rattle.block_run.specs.Area.{stack_of, low, run_of, taken, pushes, count, IsOperand, IsPlaced, StaysIn, Does, Ran}
 use Rattle.block_run.specs.Remembering.{Kept, Wrote}
 use Rattle.block_run.specs.Standing.{Mode, program, value, setting_in, IsGood, AreSeen, Here, SameElse, IsRoomy, leaves_block, Ahead, IsTrapped, Ends, weight}
-use Rattle.block_run.proofs.Needs.{found, operand, pushed}
-use Rattle.block_run.proofs.Going.{Goes, Leads, leads, less}
+use Rattle.block_run.proofs.WordsFound.{found, operand, pushed}
+use Rattle.block_run.proofs.NextPlaces.{Goes, Leads, leads, less}
 use Rattle.block_run.proofs.Onward.{words_length, stack_length, reads_seen, kept_seen, wrote_seen, written_length, Gone, gone, halted}
 
 -- ---- what runs

@@ -10,7 +10,7 @@ use Rattle.rev_code.specs.declared.code.CodeVar.{CodeVar}
 use Rattle.rev_code.specs.declared.code.Instr.{Instr}
 use Rattle.rev_code.specs.declared.code.Instr.TheVariants as i
 use Rattle.rev_code.specs.Variables.{Place, scalar, array}
-use Rattle.plain_words.specs.Plain.{Run, Plain, moves, writes, faults, leaves, lacks}
+use Rattle.block_run.specs.Plain.{Run, Plain, moves, writes, faults, leaves, lacks}
 use Rattle.block_run.specs.declared.registers.Registers.{Registers}
 use Rattle.block_run.specs.declared.registers.Stop.{Stop}
 use Rattle.block_run.specs.declared.registers.Stop.TheVariants as stop

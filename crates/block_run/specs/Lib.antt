@@ -4,3 +4,5 @@ pub mod Remembering
 pub mod Area
 pub mod Stops
 pub mod Standing
+pub mod Plain
+pub mod Agreement

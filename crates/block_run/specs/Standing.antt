@@ -17,8 +17,8 @@ use Rattle.rev_code.specs.Step.{traps, step, Steps}
 use Rattle.rev_code.specs.Funs.{setting, setting_of_fun, values}
 use Rattle.code_rules.specs.Pass.{is_charge, is_value_class}
 use Rattle.code_soundness.specs.Typed.{IsRevision, IsTyped}
-use Rattle.code_soundness.specs.Whole.{notes_of}
-use Rattle.plain_words.specs.Agreement.{IsWord, IsRun}
+use Rattle.code_soundness.specs.AcceptedCode.{notes_of}
+use Rattle.block_run.specs.Agreement.{IsWord, IsRun}
 use Rattle.block_run.specs.declared.registers.Registers.{Registers}
 use Rattle.block_run.specs.declared.registers.Stop.{Stop}
 use Rattle.block_run.specs.declared.registers.Stop.TheVariants as stop

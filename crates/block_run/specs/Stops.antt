@@ -5,12 +5,12 @@ use Rattle.rev_num.specs.declared.outcome.Cause.{Cause}
 use Rattle.rev_num.specs.declared.outcome.Cause.TheVariants as cause
 use Rattle.block_run.specs.declared.registers.Act.{Act}
 use Rattle.block_run.specs.declared.registers.Act.TheVariants as act
-use Rattle.block_run.specs.declared.registers.Fault.{Fault}
-use Rattle.block_run.specs.declared.registers.Fault.TheVariants as fault
+use Rattle.block_run.specs.declared.registers.BlockTrap.{BlockTrap}
+use Rattle.block_run.specs.declared.registers.BlockTrap.TheVariants as fault
 use Rattle.block_run.specs.declared.registers.Stop.{Stop}
 use Rattle.block_run.specs.declared.registers.Stop.TheVariants as stop
 
-abbrev pub cause_of : Fault → Cause
+abbrev pub cause_of : BlockTrap → Cause
 cause_of fault.Overflow = cause.Overflow
 cause_of fault.ZeroDivisor = cause.ZeroDivisor
 cause_of fault.Index = cause.Index

@@ -3,8 +3,8 @@
 ghost use Rattle.std.specs.Prelude.{◌≡◌, ◌+◌, ◌<◌, ◌≤◌, ◌^◌, IfSome, length};
 ghost use Rattle.rev_num.specs.Words.{int_of};
 ghost use Rattle.rev_code.specs.Variables.{Place, array, cell_at, scalar};
-ghost use Rattle.plain_words.specs.Plain as p;
-ghost use Rattle.plain_words.specs.Agreement.{PushesInt};
+ghost use Rattle.block_run.specs.Plain as p;
+ghost use Rattle.block_run.specs.Agreement.{PushesInt};
 ghost use Rattle.version_map.specs.Deltas.{at};
 ghost use Rattle.version_map.specs.Overlay.{under};
 ghost use Rattle.block_run.specs.Remembering.{Kept, Wrote};
@@ -13,7 +13,7 @@ ghost use Rattle.block_run.specs.Area.{IsPlaced, IsTable, IsVariable, StaysIn};
 ghost use Rattle.block_run.specs.Stops.{stop_of};
 
 use crate::memory::Memory;
-use crate::registers::{Act, Fault, Registers, Variable};
+use crate::registers::{Act, BlockTrap, Registers, Variable};
 use crate::values;
 use rev_code::{Code, CodeBlock, Instr};
 use rev_num::word_of_int;
@@ -152,7 +152,7 @@ fn act_load_cell<P: Snapshot>(
     ensures group { P.group memory.new.snapshot ≡ P.group memory.old.snapshot }
 {
     match cell(t, values::top(b, words, r)) {
-        None => Act::Traps(Fault::Index),
+        None => Act::Traps(BlockTrap::Index),
         Some(location) => {
             let word = memory.read(location);
             values::put(b, words, r, word)
@@ -191,7 +191,7 @@ fn act_store_cell<P: Snapshot>(
 {
     let (index, word) = values::two(b, words, r);
     match cell(t, index) {
-        None => Act::Traps(Fault::Index),
+        None => Act::Traps(BlockTrap::Index),
         Some(location) => {
             memory.write(location, word);
             r.top -= 2;
@@ -219,7 +219,7 @@ fn act_check_cell(
         (stop_of result) }
 {
     match cell(t, values::top(b, words, r)) {
-        None => Act::Traps(Fault::Index),
+        None => Act::Traps(BlockTrap::Index),
         Some(_) => {
             r.at += 1;
             Act::Goes

@@ -7,9 +7,11 @@ mod memory;
 mod registers;
 mod table;
 mod values;
+mod words;
 
 pub use block::run_block;
 pub use instruction::act;
 pub use memory::Memory;
-pub use registers::{Act, Fault, Registers, Stop, Variable};
+pub use registers::{Act, BlockTrap, Registers, Stop, Variable};
 pub use table::table_of;
+pub use words::agreement;

@@ -19,7 +19,7 @@ pub struct Registers {
 
 /// Why an instruction of a block traps.
 #[derive(Clone, Copy)]
-pub enum Fault {
+pub enum BlockTrap {
     Overflow,
     ZeroDivisor,
     Index,
@@ -32,7 +32,7 @@ pub enum Fault {
 #[derive(Clone, Copy)]
 pub enum Act {
     Goes,
-    Traps(Fault),
+    Traps(BlockTrap),
     /// It applies a fun, calls, returns, prints, or meets another revision, and nothing has changed
     /// yet.
     Leaves,
@@ -61,18 +61,18 @@ impl Act {
     }
 }
 
-impl Fault {
+impl BlockTrap {
     /// The cause of the trap.
     #[inline(always)]
     pub fn cause(self) -> Cause
         ensures { result ≡ cause_of self }
     {
         match self {
-            Fault::Overflow => Cause::Overflow,
-            Fault::ZeroDivisor => Cause::ZeroDivisor,
-            Fault::Index => Cause::Index,
-            Fault::Assert => Cause::Assert,
-            Fault::Spent => Cause::Spent,
+            BlockTrap::Overflow => Cause::Overflow,
+            BlockTrap::ZeroDivisor => Cause::ZeroDivisor,
+            BlockTrap::Index => Cause::Index,
+            BlockTrap::Assert => Cause::Assert,
+            BlockTrap::Spent => Cause::Spent,
         }
     }
 }

@@ -1,7 +1,7 @@
 //! Where the locations of shared variables lie.
 
 ghost use Rattle.std.specs.Prelude.{◌≡◌, IfOk};
-ghost use Rattle.code_soundness.specs.Whole.{notes_of, IsAccepted};
+ghost use Rattle.code_soundness.specs.AcceptedCode.{notes_of, IsAccepted};
 ghost use Rattle.block_run.specs.Area.{IsTable, table_from};
 
 use crate::registers::Variable;

@@ -5,20 +5,20 @@ ghost use Rattle.std.specs.Prelude.{false, int_lt, int_le, slice_get, Some, true
 ghost use Rattle.rev_num.specs.Arith.{sum_of, difference_of, product_of, quotient_of};
 ghost use Rattle.rev_num.specs.Arith.{remainder_of, negation_of};
 ghost use Rattle.rev_code.specs.Step as step;
-ghost use Rattle.plain_words.specs.Plain as p;
+ghost use Rattle.block_run.specs.Plain as p;
 ghost use Rattle.block_run.specs.Area.{IsAct, IsPlaced, run_of};
 ghost use Rattle.block_run.specs.Stops.{cause_of, stop_of};
 
-use crate::registers::{Act, Fault, Registers};
+use crate::registers::{Act, BlockTrap, Registers};
 use rev_code::CodeBlock;
 use rev_num::{NumFault, add, div, int_of_word, mul, neg, rem, sub, word_of_int};
 
-fn fault_of(fault: NumFault) -> Fault
+fn fault_of(fault: NumFault) -> BlockTrap
     ensures { cause_of result ≡ step.cause_of fault }
 {
     match fault {
-        NumFault::Overflow => Fault::Overflow,
-        NumFault::ZeroDivisor => Fault::ZeroDivisor,
+        NumFault::Overflow => BlockTrap::Overflow,
+        NumFault::ZeroDivisor => BlockTrap::ZeroDivisor,
     }
 }
 
@@ -351,7 +351,7 @@ pub fn act_charge(b: &CodeBlock, words: &[u64], r: &mut Registers, line: u32) ->
 {
     r.line = line;
     if r.fuel == 0 {
-        return Act::Traps(Fault::Spent);
+        return Act::Traps(BlockTrap::Spent);
     }
     r.fuel -= 1;
     r.at += 1;
@@ -366,7 +366,7 @@ pub fn act_assert(b: &CodeBlock, words: &[u64], r: &mut Registers) -> Act
         b.now words.now words.now r.old r.new (stop_of result) }
 {
     if top(b, words, r) == 0 {
-        return Act::Traps(Fault::Assert);
+        return Act::Traps(BlockTrap::Assert);
     }
     r.top -= 1;
     r.at += 1;
@@ -398,7 +398,7 @@ pub fn act_load_input(b: &CodeBlock, words: &mut [u64], r: &mut Registers, input
         let z = inputs[at as usize];
         return put(b, words, r, word_of_int(z));
     }
-    Act::Traps(Fault::Index)
+    Act::Traps(BlockTrap::Index)
 }
 
 /// Puts the number of inputs on the stack.

@@ -1,3 +1,4 @@
+-- Proofs of code_file: the file of code, read and written.
 pub mod Steps
 pub mod Operands
 pub mod Sums

@@ -1,3 +1,4 @@
+-- Definitions of code_file: the file of code, read and written.
 pub mod Fields
 pub mod Parts
 pub mod Reads

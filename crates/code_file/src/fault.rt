@@ -4,7 +4,7 @@ use std::alloc::{AllocError, AllocFailed};
 
 /// The first fault of bytes that are no code file, or that memory is wanting. `at` is an offset in
 /// bytes.
-#[derive(Clone, Copy, PartialEq, Eq, Debug, Drop)]
+#[derive(Clone, Copy, Drop)]
 pub enum ReadFault {
     /// The bytes begin otherwise than a code file.
     BadMagic,

@@ -1,3 +1,4 @@
+-- Proofs of code_generation: the code of a program as a function of its tree.
 pub mod Lengths
 pub mod Standing
 pub mod Jumps

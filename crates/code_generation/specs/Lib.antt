@@ -1,3 +1,4 @@
+-- Definitions of code_generation: the code of a program as a function of its tree.
 pub mod Numbers
 pub mod Expressions
 pub mod Sizes

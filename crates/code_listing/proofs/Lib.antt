@@ -1,1 +1,2 @@
+-- Proofs of code_listing: code as text.
 pub mod Numbered

@@ -1,1 +1,2 @@
+-- Definitions of code_listing: code as text.
 pub mod Listing

@@ -13,7 +13,7 @@ use Rattle.rev_code.specs.Funs.{values}
 use Rattle.rev_code.specs.Events as events
 pub use Rattle.code_soundness.proofs.Basics.{and_parts}
 use Rattle.code_soundness.specs.Prices.{place, below, leg_prices}
-use Rattle.code_soundness.specs.Whole.{notes_of}
+use Rattle.code_soundness.specs.AcceptedCode.{notes_of}
 use Rattle.version_map.specs.Composing.{Entry, Composition, composed, and_later, before_later}
 use Rattle.code_machine.specs.Local.{CodeRun, under, Trap, Phase, running, done, trapped, Local, at_work, has_ended, End, end_of, written_from, with_entry, of_state}
 use Rattle.code_machine.specs.Leg.{longest, clock, leg}

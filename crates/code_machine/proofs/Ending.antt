@@ -9,7 +9,7 @@ use Rattle.code_machine.specs.Machines.{machine, numbered, Holds, start_in}
 use Rattle.code_machine.specs.Renamed.{IsNumbered}
 use Rattle.code_machine.specs.Proper.{IsProper, EachEntry, IsOver, NoneIsBlocked}
 use Rattle.code_machine.proofs.Holding.{holding}
-use Rattle.code_machine.proofs.Meeting.{counts, named_counts}
+use Rattle.code_machine.proofs.MachineConditions.{counts, named_counts}
 use Rattle.code_machine.proofs.Numbering.{simulates, first_none, first_numbered}
 use Rattle.code_machine.proofs.Typing.{worlds_proper, stops_over}
 

@@ -13,7 +13,7 @@ use Rattle.code_machine.specs.Machines.{act, machine, numbered, IsMain, start_in
 use Rattle.code_machine.specs.Weights.{pay}
 use Rattle.code_machine.specs.Worlds.{fuels, FuelIsOfTheStart}
 use Rattle.code_machine.proofs.Paying.{MoveOk, BearOk, WantOk, ActOk, act_ok, join_ok, some_pay}
-use Rattle.code_machine.proofs.Meeting.{counts, pays}
+use Rattle.code_machine.proofs.MachineConditions.{counts, pays}
 use Rattle.code_machine.proofs.Starting.{first_pay}
 use Rattle.code_machine.proofs.Changes.{LegOf, went, bore, took, twice, leg_ways, joinee_stays}
 use Rattle.revision_machine.proofs.Replays.{replays_keep}

@@ -9,7 +9,7 @@ use Rattle.code_soundness.specs.Prices.{leg_prices}
 use Rattle.code_soundness.specs.Paid.{UsesUp}
 use Rattle.code_soundness.proofs.Stepping.{uses}
 use Rattle.code_soundness.proofs.Priced.{leg_bears}
-use Rattle.code_soundness.specs.Whole.{IsAccepted, notes_of}
+use Rattle.code_soundness.specs.AcceptedCode.{IsAccepted, notes_of}
 use Rattle.code_soundness.specs.Typed.{IsRevision}
 pub use Rattle.code_soundness.proofs.Accepting.{no_fault_accepted}
 use Rattle.code_soundness.proofs.Reaching.{has_step, is_safe}

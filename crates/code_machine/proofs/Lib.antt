@@ -6,7 +6,7 @@ pub mod Acts
 pub mod Events
 pub mod Holding
 pub mod Paying
-pub mod Meeting
+pub mod MachineConditions
 pub mod Numbering
 pub mod Changes
 pub mod Typing

@@ -22,7 +22,7 @@ use Rattle.code_machine.specs.Renamed.{renamed_word, renamed_location, renamed, 
 use Rattle.code_machine.proofs.Renaming.{first_locals_same}
 use Rattle.code_machine.proofs.Acts.{SameAct, both_go, both_bear, both_want, both_stop, act_same, join_same}
 use Rattle.code_machine.proofs.Holding.{goes_held, forker_held, forked_held, want_held, join_held}
-use Rattle.code_machine.proofs.Meeting.{by_moves, by_forks}
+use Rattle.code_machine.proofs.MachineConditions.{by_moves, by_forks}
 
 module _ {H K : Type 0} (f : H → K) where
   from_go : (x : Act H) (y : Act K) → SameAct f x y → (m : Local K) → y ≡ Goes m

@@ -27,7 +27,7 @@ use Rattle.code_machine.specs.Outcome.{value_of, value_at, show_cells, show_vari
 use Rattle.code_machine.proofs.Renaming.{seen_at_same}
 use Rattle.code_machine.proofs.Naming.{AllFixed, local_fixed}
 use Rattle.code_machine.proofs.Holding.{holding}
-use Rattle.code_machine.proofs.Meeting.{counts, named_counts}
+use Rattle.code_machine.proofs.MachineConditions.{counts, named_counts}
 use Rattle.code_machine.proofs.Numbering.{simulates, first_none, first_numbered}
 use Rattle.code_machine.proofs.Ending.{none_blocked}
 

@@ -11,7 +11,7 @@ use Rattle.code_soundness.specs.Prices.{Prices, entry_prices, place, below, tota
 use Rattle.code_soundness.specs.Paid.{UsesUp}
 use Rattle.code_soundness.proofs.Stepping.{uses}
 use Rattle.code_soundness.proofs.Priced.{entry_bears}
-use Rattle.code_soundness.specs.Whole.{notes_of}
+use Rattle.code_soundness.specs.AcceptedCode.{notes_of}
 use Rattle.version_map.specs.Composing.{Composition, composed}
 use Rattle.code_machine.specs.Local.{CodeRun, IsVerified, under, Trap, Phase, running, done, trapped, Local, at_work, End, end_of}
 use Rattle.code_machine.specs.Leg.{longest, clock, leg}

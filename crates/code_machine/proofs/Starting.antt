@@ -5,7 +5,7 @@ use Rattle.code_soundness.specs.Prices as prices
 use Rattle.code_soundness.specs.Prices.{Prices, entry_prices, place}
 use Rattle.code_soundness.proofs.Costing.{begun}
 use Rattle.code_soundness.proofs.Priced.{entry_bears}
-use Rattle.code_soundness.specs.Whole.{notes_of}
+use Rattle.code_soundness.specs.AcceptedCode.{notes_of}
 use Rattle.revision_machine.specs.Laws.{BoundLaw, CountLaw}
 use Rattle.revision_machine.specs.Numbered.{World, Both, Listing, ScheduleBound, WorldCount, CountsAtMost}
 use Rattle.revision_machine.proofs.Census.{bound_law, count_law, count_up}
@@ -17,7 +17,7 @@ use Rattle.code_machine.specs.Machines.{machine, numbered, IsMain, start_in}
 use Rattle.code_machine.specs.Weights.{weight, pay, fork_prices}
 use Rattle.code_machine.proofs.Legs.{accepted, no_longer}
 use Rattle.code_machine.proofs.Paying.{fork_bears}
-use Rattle.code_machine.proofs.Meeting.{counts, spends, pays, named_counts, named_spends, named_pays}
+use Rattle.code_machine.proofs.MachineConditions.{counts, spends, pays, named_counts, named_spends, named_pays}
 
 module _ (g : CodeRun) (ok : IsVerified g) (n : ℕ) (m : IsMain g n) (fuel : ℕ) where
   starts_free : (p : Prices) → prices.Bears p (longest g.code.blocks)

@@ -14,7 +14,7 @@ use Rattle.rev_code.specs.State.{Location, State, seen_at, written_at}
 use Rattle.rev_code.specs.Step.{Comes, goes, traps, forks, joins, ends, stuck, step, value_at}
 use Rattle.rev_code.specs.Funs.{values}
 use Rattle.rev_code.specs.Events as events
-use Rattle.code_soundness.specs.Whole.{notes_of}
+use Rattle.code_soundness.specs.AcceptedCode.{notes_of}
 use Rattle.code_soundness.specs.Typed.{AreLocations, location_kinds, IsRevision}
 use Rattle.code_soundness.specs.Funs.{HasValue}
 use Rattle.code_soundness.specs.Safe.{IsForked}
@@ -26,7 +26,7 @@ use Rattle.revision_machine.specs.Conditions.{IsKept}
 use Rattle.revision_machine.specs.Laws.{local_of}
 use Rattle.revision_machine.specs.Numbered as numbers
 use Rattle.revision_machine.specs.Numbered.{Entries, World, Listing, at_number, put_number, begin, Replays}
-use Rattle.revision_machine.proofs.Kept.{kept_law}
+use Rattle.revision_machine.proofs.KeptByEvents.{kept_law}
 use Rattle.version_map.specs.Composing.{Entry as Changed, Composition, composed, and_later}
 use Rattle.code_machine.specs.Local.{CodeRun, IsVerified, under, Trap, Phase, running, done, trapped, Local, at_work, has_ended, end_of, written_from, with_entry}
 use Rattle.code_machine.specs.Leg.{leg, HasLeg}

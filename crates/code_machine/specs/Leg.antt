@@ -8,7 +8,7 @@ use Rattle.rev_code.specs.declared.code.CodeBlock.{CodeBlock}
 use Rattle.rev_code.specs.State.{State, Setting}
 use Rattle.rev_code.specs.Step.{Comes, goes, traps, forks, joins, ends, stuck, step, Steps, reach}
 use Rattle.code_soundness.specs.Prices.{leg_prices, total}
-use Rattle.code_soundness.specs.Whole.{notes_of}
+use Rattle.code_soundness.specs.AcceptedCode.{notes_of}
 use Rattle.code_soundness.specs.Typed.{IsRevision}
 use Rattle.code_machine.specs.Local.{CodeRun, IsVerified, under}
 

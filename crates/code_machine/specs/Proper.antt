@@ -4,7 +4,7 @@
 --   IsOver         a revision is done or has trapped
 use Rattle.std.specs.Prelude.{◌≡◌, ◌⊎◌, ℕ, List, Some}
 use Rattle.rev_num.specs.Path.{Path}
-use Rattle.code_soundness.specs.Whole.{notes_of}
+use Rattle.code_soundness.specs.AcceptedCode.{notes_of}
 use Rattle.code_soundness.specs.Typed.{AreLocations, location_kinds, IsRevision}
 use Rattle.revision_machine.specs.Machine.{Entry}
 use Rattle.revision_machine.specs.Laws.{local_of, KeptLaw}

@@ -5,7 +5,7 @@
 use Rattle.std.specs.Prelude.{ℕ, ◌+◌, ◌*◌}
 use Rattle.rev_code.specs.State.{State}
 use Rattle.code_soundness.specs.Prices.{Prices, entry_prices, total}
-use Rattle.code_soundness.specs.Whole.{notes_of}
+use Rattle.code_soundness.specs.AcceptedCode.{notes_of}
 use Rattle.code_machine.specs.Local.{CodeRun, Phase, running, done, trapped, Local}
 
 module _ {H : Type 0} (g : CodeRun) where

@@ -28,7 +28,7 @@ use Rattle.revision_machine.proofs.Replays.{replays_keep}
 use Rattle.revision_machine.proofs.Lists.{at_front, put_other, put_here}
 use Rattle.code_machine.proofs.Fuel.{fuel_of, two_fuels}
 use Rattle.code_machine.proofs.Holding.{holding, want_held}
-use Rattle.code_machine.proofs.Meeting.{counts, named_counts}
+use Rattle.code_machine.proofs.MachineConditions.{counts, named_counts}
 use Rattle.code_machine.proofs.Numbering.{simulates, first_none, first_numbered}
 use Rattle.code_machine.proofs.Starting.{revision_count}
 use Rattle.code_machine.proofs.Typing.{goes_act, bears_act, wants_act}

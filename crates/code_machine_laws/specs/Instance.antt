@@ -5,7 +5,7 @@ use Rattle.code_machine.specs.Machines.{machine, numbered, Holds}
 use Rattle.code_machine.specs.Renamed.{IsNumbered}
 use Rattle.code_machine.specs.Weights.{weight, pay}
 use Rattle.code_machine.proofs.Holding.{holding}
-use Rattle.code_machine.proofs.Meeting.{counts, spends, pays, named_counts, named_spends, named_pays}
+use Rattle.code_machine.proofs.MachineConditions.{counts, spends, pays, named_counts, named_spends, named_pays}
 use Rattle.code_machine.proofs.Numbering.{simulates}
 
 abbrev pub lawful : (g : CodeRun) → IsVerified g → Lawful

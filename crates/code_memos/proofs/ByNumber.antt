@@ -31,7 +31,7 @@ use Rattle.code_machine.specs.Proper.{IsProper}
 use Rattle.code_machine.specs.Renamed.{renamed_as, renamed_one, renamed_word, IsNumbered}
 use Rattle.code_machine.proofs.Acts.{leg_same}
 use Rattle.code_machine.proofs.Holding.{holding}
-use Rattle.code_machine.proofs.Meeting.{counts, named_counts}
+use Rattle.code_machine.proofs.MachineConditions.{counts, named_counts}
 use Rattle.code_machine.proofs.Numbering.{simulates, first_none, first_numbered}
 use Rattle.code_machine.proofs.Typing.{first_proper, states_proper}
 use Rattle.code_memos.specs.Renaming.{renamed_read, renamed_end}

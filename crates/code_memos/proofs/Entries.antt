@@ -11,7 +11,7 @@ use Rattle.rev_num.specs.Value.{same_kind}
 use Rattle.code_machine.specs.Local.{CodeRun, under, at_work, end_of}
 use Rattle.code_machine.specs.Leg.{clock}
 use Rattle.code_machine.specs.Machines.{machine, IsMain}
-use Rattle.code_machine.proofs.Meeting.{counts}
+use Rattle.code_machine.proofs.MachineConditions.{counts}
 use Rattle.code_memos.specs.Births.{Born}
 use Rattle.code_memos.proofs.Births.{one_birth}
 use Rattle.code_memos.specs.Leaf.{Fresh, IsFresh, Known, IsKnown}

@@ -5,7 +5,7 @@ use Rattle.rev_num.proofs.Options.{none_some}
 use Rattle.revision_machine.specs.Machine.{Event, Moves, Forks, Joins, Ended, Machine, Entry, Plain, Joined, Global, Twice, Live, start, step_at, happens, Runs, Final, Complete, Reached}
 use Rattle.revision_machine.specs.Conditions.{Counts, IsKept}
 use Rattle.revision_machine.specs.Laws.{local_of, KeptLaw}
-use Rattle.revision_machine.proofs.Kept.{kept_law}
+use Rattle.revision_machine.proofs.KeptByEvents.{kept_law}
 use Rattle.revision_machine.proofs.Standing.{standing_law}
 use Rattle.code_memos.specs.Births.{LeavesEnd}
 use Rattle.code_memos.proofs.Witness.{with_birth, Both, W, plain_entry, plain_option, plain_map, plain, lift, start_same, final_same, moves_count, forks_count, joins_count}

@@ -20,7 +20,7 @@ use Rattle.code_memos.specs.Births.{Born}
 use Rattle.code_machine.specs.Local.{CodeRun, IsVerified, Phase, running, done, trapped, Local, at_work}
 use Rattle.code_machine.specs.Machines.{machine, numbered, IsMain, start_in}
 use Rattle.code_machine.specs.Renamed.{renamed_one, renamed_as, renamed_location, renamed_phase, renamed_word, IsNumbered}
-use Rattle.code_machine.proofs.Meeting.{named_counts}
+use Rattle.code_machine.proofs.MachineConditions.{named_counts}
 use Rattle.code_machine.proofs.Renaming.{first_locals_same}
 use Rattle.code_machine.proofs.Numbering.{simulates, first_numbered}
 use Rattle.code_memos.specs.Freshness.{IsUnlisted, FreshByNumber, UnlistedByNumber}

@@ -12,7 +12,7 @@ use Rattle.revision_machine.specs.Laws.{local_of, IsIn, IsDistinct}
 use Rattle.code_machine.specs.Local.{CodeRun, IsVerified, under, Local, at_work}
 use Rattle.code_machine.specs.Leg.{leg, clock}
 use Rattle.code_machine.specs.Machines.{Act, Stops, act, machine, event_of, IsMain}
-use Rattle.code_machine.proofs.Meeting.{counts}
+use Rattle.code_machine.proofs.MachineConditions.{counts}
 use Rattle.code_memos.proofs.Leaves.{leaves_end}
 use Rattle.code_memos.specs.Leaf.{Fresh, ended_by}
 use Rattle.code_memos.specs.Memo.{first, IsLeaf, HasValid}

@@ -8,7 +8,7 @@ use Rattle.code_soundness.specs.Prices.{leg_prices}
 use Rattle.code_soundness.specs.Paid.{UsesUp}
 use Rattle.code_soundness.proofs.Stepping.{uses}
 use Rattle.code_soundness.proofs.Priced.{leg_bears}
-use Rattle.code_soundness.specs.Whole.{notes_of}
+use Rattle.code_soundness.specs.AcceptedCode.{notes_of}
 use Rattle.code_machine_laws.specs.Instance.{CodeRun, IsVerified}
 use Rattle.code_machine_laws.proofs.Keeping.{under}
 use Rattle.code_machine_laws.specs.Laws.{IsEvent, longest}

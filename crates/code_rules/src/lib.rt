@@ -5,7 +5,7 @@
 #![tactic(auto)]
 
 /// A rule on code. Where an instruction breaks several, the one that comes first here is reported.
-#[derive(Clone, Copy, PartialEq, Eq, Debug)]
+#[derive(Clone, Copy)]
 pub enum Rule {
     /// A target outside of the block, or one that is not after the jump, where it is no Charge or
     /// the block is a fun or merge.
@@ -28,7 +28,7 @@ pub enum Rule {
 
 /// What a fun or merge costs: the words that it needs, and how many instructions it has, with those
 /// of the funs that it applies. Other blocks cost nothing.
-#[derive(Clone, Copy, PartialEq, Eq, Debug)]
+#[derive(Clone, Copy)]
 pub struct Cost {
     pub need: u64,
     pub count: u64,
@@ -36,7 +36,7 @@ pub struct Cost {
 
 /// Where code breaks a rule: the number of the block, and of the instruction in it. A fault of the
 /// tables is BadOperand or LimitOf, at instruction 0 of block 0.
-#[derive(Clone, Copy, PartialEq, Eq, Debug)]
+#[derive(Clone, Copy)]
 pub struct Fault {
     pub block: usize,
     pub at: usize,

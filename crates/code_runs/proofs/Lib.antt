@@ -10,4 +10,4 @@ pub mod InWorlds
 pub mod Completing
 pub mod Least
 pub mod Schedules
-pub mod Underway
+pub mod WorldsAndRuns

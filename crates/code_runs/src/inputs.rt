@@ -1,7 +1,7 @@
 //! The inputs of a run.
 
 ghost use Rattle.std.specs.Prelude.{◌≡◌, true};
-ghost use Rattle.plain_words.specs.Agreement.{AreInputs};
+ghost use Rattle.block_run.specs.Agreement.{AreInputs};
 ghost use Rattle.rev_num.specs.Arith.{fits_i64};
 
 /// Looks at an input: it has 64 bits, as its type says.

@@ -12,7 +12,7 @@ use Rattle.code_rules.specs.Shapes.{same_shape, takes, begins, shape_after}
 use Rattle.code_rules.specs.Pass as pass
 use Rattle.code_rules.specs.Pass.{Note, Passed, known, arrival, before, gone, passed, fallen, jumped, joined, leads_to, meet, is_other, clashes, bad_jump, bad_operand, bad_local, falls_off, is_bare, is_paid_for, is_value_class, falls, target, bad_shape, wrong_kind, over_limit, broken, or_fault, scan, block_fault, most_words}
 use Rattle.code_soundness.proofs.Basics.{and_parts, same_is, not_false, if_none, parts, no_length, some_within, within_some, before_next, before_length}
-use Rattle.code_soundness.proofs.Meeting.{meet_now, meet_mark, fits_on, joined_fits, leads_self, leads_is}
+use Rattle.code_soundness.proofs.ShapesOnArrival.{meet_now, meet_mark, fits_on, joined_fits, leads_self, leads_is}
 use Rattle.code_soundness.specs.Certificate.{Fits, leaves, IsNoted, IsCertified, note_at}
 
 -- ---- no rule is broken anywhere

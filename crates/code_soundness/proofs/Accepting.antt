@@ -16,7 +16,7 @@ use Rattle.code_soundness.specs.Certificate.{note_at, IsCertified}
 use Rattle.code_soundness.proofs.Accepted.{accepted, or_none}
 use Rattle.code_soundness.proofs.Basics.{if_none}
 use Rattle.code_soundness.proofs.Costs.{ok_eq, block_costs}
-use Rattle.code_soundness.specs.Whole.{IsAccepted, AreCosts, notes_in, notes_of, all_passed}
+use Rattle.code_soundness.specs.AcceptedCode.{IsAccepted, AreCosts, notes_in, notes_of, all_passed}
 use Rattle.code_soundness.proofs.Rooms.{place_room}
 use Rattle.code_soundness.proofs.Lists.{none_some, some_eq, or_parts}
 

@@ -19,7 +19,7 @@ use Rattle.code_rules.specs.Shapes.{begins, kind_or_int, kind_or_any, var_kind}
 use Rattle.code_rules.specs.Pass.{Note, falls, has_class, is_value_class}
 use Rattle.code_rules.specs.Tables.{is_var, blocks_well, lines_well}
 use Rattle.code_soundness.specs.Typed.{kinds_of, location_kinds}
-use Rattle.code_soundness.specs.Whole.{IsAccepted}
+use Rattle.code_soundness.specs.AcceptedCode.{IsAccepted}
 use Rattle.code_soundness.proofs.Lists.{and_parts, not_false, all_at, within_some, kinds_set, word_at}
 use Rattle.code_soundness.proofs.Variables.{IsScalarAt, IsArrayAt, scalar_at, array_at, seen_there, written_there}
 use Rattle.code_soundness.proofs.Well.{Stands, Well, GoesWell, Known}

@@ -20,7 +20,7 @@ use Rattle.code_rules.specs.Pass.{Note, is_value_class}
 use Rattle.code_rules.specs.Tables.{is_var, is_block, fits_class, has_result, names_well, blocks_well, lines_well, ends_in_main, merges_well, is_name, has_cells, is_start, is_merge_class, is_int_merge, is_int_result, are_three_ints, no_merge}
 use Rattle.std.specs.Prelude.{nat_le}
 use Rattle.code_soundness.specs.Typed.{kinds_of, IsTyped}
-use Rattle.code_soundness.specs.Whole.{IsAccepted}
+use Rattle.code_soundness.specs.AcceptedCode.{IsAccepted}
 use Rattle.code_soundness.specs.Funs.{HasValue, IsFunStep}
 use Rattle.code_soundness.proofs.Basics.{take_whole, take_front, get_last}
 use Rattle.code_soundness.proofs.Lists.{append_length, and_parts, some_eq, none_some, some_within, within_some, all_at, get_append_left, get_append_right, fits_kinds}

@@ -20,7 +20,7 @@ use Rattle.rev_code.specs.Events.{start, part}
 use Rattle.code_rules.specs.Shapes.{begins, param_kinds, result_kinds, one_or_none}
 use Rattle.code_rules.specs.Pass.{Note, has_class, is_value_class}
 use Rattle.code_soundness.specs.Typed.{kinds_of, IsFrame, IsWaiting, AllWaiting, AreLocations, location_kinds, IsOfProgram, IsRevision}
-use Rattle.code_soundness.specs.Whole.{IsAccepted}
+use Rattle.code_soundness.specs.AcceptedCode.{IsAccepted}
 use Rattle.code_soundness.specs.Funs.{kind_of_result}
 use Rattle.code_soundness.proofs.Lists.{some_eq, drop_whole, begins_all, kinds_drop, kinds_length, first_kinds, Taken, taken}
 use Rattle.code_soundness.proofs.Variables.{view_kinds}

@@ -1,5 +1,7 @@
+-- Proofs of code_soundness: accepted code has certificates and never fails when it runs, funs and merges have
+-- values, and a leg ends.
 pub mod Basics
-pub mod Meeting
+pub mod ShapesOnArrival
 pub mod Accepted
 pub mod Costs
 pub mod Costing

@@ -8,7 +8,7 @@ use Rattle.rev_code.specs.State.{State, Frame, Setting}
 use Rattle.rev_code.specs.Step.{goes, step}
 use Rattle.code_rules.specs.Pass.{Note, is_charge, is_value_class, target, bad_jump}
 use Rattle.code_soundness.specs.Prices.{AllCertified, instr_in}
-use Rattle.code_soundness.specs.Once.{at_charge, Within, stay, more, OncePerFrame}
+use Rattle.code_soundness.specs.OncePerCharge.{at_charge, Within, stay, more, OncePerFrame}
 use Rattle.code_soundness.proofs.Costing.{back_at_charge}
 use Rattle.code_soundness.proofs.Ways as w
 use Rattle.code_soundness.proofs.Ways.{Way, Ways, ways}

@@ -12,7 +12,7 @@ use Rattle.code_rules.specs.Shapes.{takes, begins, shape_after}
 use Rattle.code_rules.specs.Pass.{Note, target, falls, is_bare, is_charge, is_pure, is_value_class, names, bad_jump, bad_operand, most_words}
 use Rattle.code_soundness.specs.Certificate.{IsNoted}
 use Rattle.code_soundness.specs.Typed.{kinds_of, AreLocations, location_kinds, IsOfProgram}
-use Rattle.code_soundness.specs.Whole.{IsAccepted}
+use Rattle.code_soundness.specs.AcceptedCode.{IsAccepted}
 use Rattle.code_soundness.proofs.Lists.{and_false, some_eq, some_within, or_parts, not_false, kinds_length}
 use Rattle.code_soundness.proofs.Well.{Stands, GoesWell}
 

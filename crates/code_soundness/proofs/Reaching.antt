@@ -17,7 +17,7 @@ use Rattle.code_rules.specs.Pass.{Note, is_value_class}
 use Rattle.code_rules.specs.Tables.{is_main, fits_class, has_result}
 use Rattle.code_soundness.specs.Typed.{kinds_of, AreLocations, location_kinds, IsOfProgram, IsRevision}
 use Rattle.code_rules.specs.Verdict.{first_fault}
-use Rattle.code_soundness.specs.Whole.{IsAccepted, notes_of}
+use Rattle.code_soundness.specs.AcceptedCode.{IsAccepted, notes_of}
 use Rattle.code_soundness.proofs.Accepting.{no_fault_accepted}
 use Rattle.code_soundness.specs.Safe as safe
 use Rattle.code_soundness.specs.Safe.{HasStep, IsSafe, IsReached, NeverFails}

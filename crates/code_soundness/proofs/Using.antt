@@ -18,7 +18,7 @@ use Rattle.code_rules.specs.Pass.{Passed, passed, gone, names, has_class, applie
 use Rattle.code_rules.specs.Verdict.{first_fault}
 use Rattle.code_soundness.proofs.Basics.{take_whole, take_front, get_last}
 use Rattle.code_soundness.specs.Typed.{kinds_of, IsTyped}
-use Rattle.code_soundness.specs.Whole.{IsAccepted, AreCosts, all_passed, notes_of}
+use Rattle.code_soundness.specs.AcceptedCode.{IsAccepted, AreCosts, all_passed, notes_of}
 use Rattle.code_soundness.specs.Funs.{IsFunStep}
 use Rattle.code_soundness.specs.Uses.{Use, UseOf, use_for, arguments_for, applied_use, step_use, onward_use, run_use, use_of, uses_from, uses, block_use, IsWithin, limits}
 use Rattle.code_soundness.proofs.Lists.{append_length, and_parts, some_eq, none_some, within_some, kinds_length}

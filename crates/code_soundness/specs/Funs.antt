@@ -16,7 +16,7 @@ use Rattle.rev_code.specs.Step.{Comes, goes, traps, forks, joins, ends, stuck, s
 use Rattle.rev_code.specs.Funs.{fun_start, setting_of_fun, value_of, values}
 use Rattle.code_rules.specs.Pass.{Note, is_value_class}
 use Rattle.code_soundness.specs.Typed.{kinds_of, IsTyped}
-use Rattle.code_soundness.specs.Whole.{IsAccepted}
+use Rattle.code_soundness.specs.AcceptedCode.{IsAccepted}
 
 abbrev pub IsArithmetic : Cause → Type 0
 IsArithmetic e = (e ≡ cause.Overflow) ⊎ (e ≡ cause.ZeroDivisor)

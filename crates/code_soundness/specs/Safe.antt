@@ -20,7 +20,7 @@ use Rattle.code_rules.specs.Pass.{Note, most_words}
 pub use Rattle.code_rules.specs.Tables.{is_main}
 pub use Rattle.code_rules.specs.Verdict.{first_fault}
 use Rattle.code_soundness.specs.Typed.{kinds_of, AreLocations, location_kinds, IsOfProgram, IsRevision}
-use Rattle.code_soundness.specs.Whole.{IsAccepted}
+use Rattle.code_soundness.specs.AcceptedCode.{IsAccepted}
 use Rattle.code_soundness.specs.Funs.{kind_of_result}
 
 -- ---- starts

@@ -18,7 +18,7 @@ use Rattle.code_rules.specs.declared.Cost.{Cost}
 use Rattle.code_rules.specs.Pass.{is_value_class, most_need, most_count}
 use Rattle.code_rules.specs.Verdict.{first_fault}
 use Rattle.code_soundness.specs.Typed.{kinds_of}
-use Rattle.code_soundness.specs.Whole.{AreCosts}
+use Rattle.code_soundness.specs.AcceptedCode.{AreCosts}
 
 pub record Use : Type 0 where
   pub count : ℕ

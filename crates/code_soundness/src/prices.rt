@@ -3,7 +3,7 @@
 ghost use Rattle.std.specs.Prelude.{ℕ};
 ghost use Rattle.code_soundness.specs.Prices.{Bears, entry_prices, leg_prices};
 ghost use Rattle.code_soundness.specs.Paid.{EveryNumberedStepPays, LegsAreBounded};
-ghost use Rattle.code_soundness.specs.Once.{OncePerFrame};
+ghost use Rattle.code_soundness.specs.OncePerCharge.{OncePerFrame};
 
 /// Every step of certified code uses up what it costs, and so a leg ends; between two charges each
 /// instruction is passed at most once in a frame; the prices of legs and of schedules bear all

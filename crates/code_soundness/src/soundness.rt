@@ -4,7 +4,7 @@
 //! Each law is an empty function. Those that speak of states take what a handle is as the type `H`:
 //! a revision's number, or its path.
 
-ghost use Rattle.code_soundness.specs.Whole.{NoFaultIsAccepted, NoFaultIsWithinLimits};
+ghost use Rattle.code_soundness.specs.AcceptedCode.{NoFaultIsAccepted, NoFaultIsWithinLimits};
 ghost use Rattle.code_soundness.specs.Funs.{FunsHaveValues, MergesHaveInts};
 ghost use Rattle.code_soundness.specs.Funs.{ValuesAreByBlocks, FunsStart, FunStepsAreSafe};
 ghost use Rattle.code_soundness.specs.Uses.{UsesAreByBlocks, FunsKeepTheirCosts, FunsKeepLimits};

@@ -10,7 +10,7 @@ use Rattle.revision_machine.proofs.Numbers.{first_entry}
 use Rattle.revision_machine.proofs.Schedules.{schedule_law}
 use Rattle.audit_rules.specs.Traces.{InPostOrder}
 use Rattle.code_machine.specs.Machines.{numbered, start_in}
-use Rattle.code_machine.proofs.Meeting.{named_counts}
+use Rattle.code_machine.proofs.MachineConditions.{named_counts}
 use Rattle.code_traces.specs.Parts.{part_in}
 use Rattle.code_traces.specs.Traces.{EndsInMain}
 

@@ -26,7 +26,7 @@ use Rattle.code_machine.specs.Machines.{numbered}
 use Rattle.code_traces.specs.Parts.{part_in}
 use Rattle.code_traces.specs.Traces.{IsListing, IsTheOnly}
 use Rattle.code_traces.proofs.Lists.{same_list, sorted, sorted_only, sorted_all, sorted_order}
-use Rattle.audit_rules.proofs.Traced.{found}
+use Rattle.audit_rules.proofs.TracesAsParts.{found}
 use Rattle.revision_machine.proofs.Schedules as schedules
 
 -- ---- by paths

@@ -10,7 +10,7 @@ use Rattle.revision_machine.proofs.Paths.{some_inj}
 use Rattle.revision_machine.proofs.Numbers.{none_some}
 use Rattle.trace_diagram.specs.declared.diagram.Part.{Part}
 use Rattle.audit_rules.specs.Traces.{InPostOrder}
-use Rattle.audit_rules.proofs.Listed.{put, put_among, put_order}
+use Rattle.audit_rules.proofs.FinalTraces.{put, put_among, put_order}
 
 -- ---- equal lists
 

@@ -11,7 +11,7 @@ use Rattle.revision_calculus.specs.Outcome.{show_cells, show_variable, show_all}
 use Rattle.code_generation.specs.Generated.{var_of}
 use Rattle.program_meaning.specs.Related.{run_of}
 use Rattle.audit_rules.specs.Parts as calculus_parts
-use Rattle.audit_rules.proofs.Apart.{place}
+use Rattle.audit_rules.proofs.PlacesApart.{place}
 use Rattle.code_traces.specs.Parts.{cell_places, variable_places, places}
 
 cells_named : (name : Name) (base cell count : ℕ)

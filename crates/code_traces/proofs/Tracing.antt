@@ -32,7 +32,7 @@ use Rattle.world_notes.specs.declared.noted.Noted.{Noted}
 use Rattle.world_notes.specs.Notes.{AreNoted, NotesOf}
 use Rattle.code_traces.specs.Traces.{AgreeOnTrace, HaveOneTrace, IsListing, IsTraceOf}
 use Rattle.code_traces.proofs.Worlds.{one_trace, traces_agree}
-use Rattle.code_traces.specs.Made.{AreOver, HaveEnded}
+use Rattle.code_traces.specs.NotedParts.{AreOver, HaveEnded}
 use Rattle.code_traces.specs.Traced.{HasTrace, IsNotedAfter, IsTraceIn, TracesAreOfPrograms}
 
 module _ (g : CodeRun) (ok : IsVerified g) (fuel : ℕ) where

@@ -8,22 +8,22 @@ use Rattle.revision_machine.specs.Simulation.{EntryAgrees, Agrees}
 use Rattle.revision_machine.specs.Numbered.{Entries, World, Both, Listing, at_number, paths_of, globe_of, shows, machine_by, begin, Replays, HasPaths}
 use Rattle.revision_machine.specs.Numbered as numbers
 use Rattle.revision_machine.proofs.Ends.{unique_end}
-use Rattle.revision_machine.proofs.Kept.{kept_law}
+use Rattle.revision_machine.proofs.KeptByEvents.{kept_law}
 use Rattle.revision_calculus.specs.Program.{Setting}
 use Rattle.revision_calculus.specs.State as source
 use Rattle.revision_calculus.specs.Calculus.{main, calculus}
-use Rattle.revision_calculus.specs.Kept.{IsShaped}
+use Rattle.revision_calculus.specs.KeptBySteps.{IsShaped}
 use Rattle.revision_calculus.specs.Kinded.{IsAccepted}
 use Rattle.revision_calculus.proofs.Meets as calculus_meets
 use Rattle.revision_calculus.proofs.Shapes.{shape_kept, main_shaped}
 use Rattle.audit_rules.specs.Parts as calculus_parts
 use Rattle.audit_rules.specs.Parts.{part_of}
-use Rattle.audit_rules.proofs.Meets.{places_length}
+use Rattle.audit_rules.proofs.CalculusMeets.{places_length}
 use Rattle.code_machine.specs.Local.{CodeRun, IsVerified, running, done, trapped, Local}
 use Rattle.code_machine.specs.Machines.{machine, numbered, IsMain, start_in}
 use Rattle.code_machine.specs.Proper.{EachEntry, IsOver}
 use Rattle.code_machine.specs.Renamed.{renamed_phase, IsNumbered}
-use Rattle.code_machine.proofs.Meeting.{counts}
+use Rattle.code_machine.proofs.MachineConditions.{counts}
 use Rattle.code_machine.proofs.Ending.{none_blocked}
 use Rattle.code_machine.proofs.Outcomes.{ended}
 use Rattle.program_meaning.specs.Related.{run_of}

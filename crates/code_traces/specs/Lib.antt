@@ -3,5 +3,5 @@
 pub mod Parts
 pub mod Traces
 pub mod Rows
-pub mod Made
+pub mod NotedParts
 pub mod Traced

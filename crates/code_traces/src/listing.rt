@@ -11,7 +11,7 @@ ghost use Rattle.revision_machine.specs.Laws.{IsDistinct};
 ghost use Rattle.revision_machine.specs.Numbered.{Entries, paths_of};
 ghost use Rattle.world_notes.specs.Notes.{AreNoted};
 ghost use Rattle.code_traces.specs.Traces.{IsListing};
-ghost use Rattle.code_traces.specs.Made.{AreOver, HaveEnded, noted_part, world_parts};
+ghost use Rattle.code_traces.specs.NotedParts.{AreOver, HaveEnded, noted_part, world_parts};
 
 use crate::parts::part_of;
 use crate::tables::{kinds_of, places_of};

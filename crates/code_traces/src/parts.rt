@@ -8,7 +8,7 @@ ghost use Rattle.leg_run.specs.Standing.{listed_as};
 ghost use Rattle.rev_vm.specs.States.{entry_as, phase_as};
 ghost use Rattle.code_traces.specs.Parts as spec;
 ghost use Rattle.code_traces.specs.Parts.{path_in};
-ghost use Rattle.code_traces.specs.Made.{noted_part};
+ghost use Rattle.code_traces.specs.NotedParts.{noted_part};
 
 use code_runs::{path_of, value_of};
 use code_world::Birth;

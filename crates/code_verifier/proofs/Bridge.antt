@@ -9,7 +9,7 @@ use Rattle.code_rules.specs.Shapes.{Shape, same_shape}
 use Rattle.code_rules.specs.Pass as pass
 use Rattle.code_rules.specs.Pass.{Note, Passed, after, leads_to, joined, jumped, meet, is_other, clashes, target, falls}
 use Rattle.code_verifier.specs.declared.mark.Mark.{Mark}
-use Rattle.code_verifier.specs.Kept.{Extends, shape_at}
+use Rattle.code_verifier.specs.ShapesByNumber.{Extends, shape_at}
 use Rattle.code_verifier.specs.Marking.{AllInRange, met, other_at, clashes_at, joined_mark, kept, leap, IsMark, Marks, Stands}
 use Rattle.code_verifier.proofs.Tries.{shape_extends}
 use Rattle.code_soundness.proofs.Basics.{within_some}

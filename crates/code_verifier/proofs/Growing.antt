@@ -7,7 +7,7 @@ use Rattle.rev_num.specs.declared.value.ValueKind.{ValueKind}
 use Rattle.rev_num.specs.declared.value.ValueKind.TheVariants as k
 use Rattle.code_rules.specs.Shapes.{Shape}
 use Rattle.code_verifier.specs.declared.node.Node.{Node}
-use Rattle.code_verifier.specs.Kept.{shape_at, IsPushed}
+use Rattle.code_verifier.specs.ShapesByNumber.{shape_at, IsPushed}
 use Rattle.code_verifier.specs.Trie.{shape_on, shapes_of, above, above_at, IsNode, IsTrie, new_node, with_above}
 use Rattle.code_verifier.proofs.Tries.{get_last, grown_length, grown_snoc, grown_set}
 use Rattle.code_soundness.proofs.Basics.{some_within}

@@ -1,3 +1,4 @@
+-- Proofs of code_verifier: the verifier, exact in what it accepts and in the first fault.
 pub mod Stacks
 pub mod Tries
 pub mod Growing

@@ -17,7 +17,7 @@ use Rattle.code_verifier.specs.declared.spent.Spent.{Spent}
 use Rattle.code_verifier.specs.declared.stack.Effect.{Effect}
 use Rattle.code_verifier.specs.declared.pass.Scope.{Scope}
 use Rattle.code_verifier.specs.declared.pass.Known.{Known}
-use Rattle.code_verifier.specs.Kept.{shape_at}
+use Rattle.code_verifier.specs.ShapesByNumber.{shape_at}
 use Rattle.code_verifier.specs.Effects.{IsEffect}
 use Rattle.code_verifier.specs.Marking.{met, clashes_at, leap, IsMark, Marks, Stands}
 use Rattle.code_verifier.specs.Spending.{spend, is_over, AllCheap, IsCheap, IsSpent}

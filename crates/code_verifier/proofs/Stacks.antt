@@ -8,7 +8,7 @@ use Rattle.rev_code.specs.declared.code.LayoutItem.{LayoutItem}
 use Rattle.rev_code.specs.declared.code.LayoutItem.TheVariants as item
 use Rattle.rev_code.specs.Printing.{printed_kinds}
 use Rattle.code_rules.specs.Shapes.{Shape, begins}
-use Rattle.code_verifier.specs.Kept.{first, rest}
+use Rattle.code_verifier.specs.ShapesByNumber.{first, rest}
 
 kinds_append : (xs ys : List LayoutItem) → printed_kinds (xs ++ ys) ≡ printed_kinds xs ++ printed_kinds ys
 kinds_append [] ys = refl

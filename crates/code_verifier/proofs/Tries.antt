@@ -7,7 +7,7 @@ use Rattle.rev_num.specs.declared.value.ValueKind.{ValueKind}
 use Rattle.code_soundness.proofs.Basics.{same_is, within_some, same_self}
 use Rattle.code_rules.specs.Shapes.{Shape, same_shape}
 use Rattle.code_verifier.specs.declared.node.Node.{Node}
-use Rattle.code_verifier.specs.Kept.{shape_at, first, rest, Extends}
+use Rattle.code_verifier.specs.ShapesByNumber.{shape_at, first, rest, Extends}
 use Rattle.code_verifier.specs.Trie.{shape_on, grown, shapes_of, above_at, IsTrie}
 
 -- ---- lists

@@ -5,7 +5,7 @@ use Rattle.rev_code.specs.declared.code.CodeBlock.{CodeBlock}
 use Rattle.rev_code.specs.declared.code.Instr.{Instr}
 use Rattle.code_rules.specs.Shapes.{Shape, takes, begins, shape_after}
 use Rattle.code_verifier.specs.declared.stack.Effect.{Effect}
-use Rattle.code_verifier.specs.Kept.{Extends, shape_at}
+use Rattle.code_verifier.specs.ShapesByNumber.{Extends, shape_at}
 
 -- of an instruction at the shape of this number, where these are the shapes before and behind
 pub record IsEffect (code : Code) (b : CodeBlock) (old : List Shape) (id : ℕ) (x : Instr) (new : List Shape) (effect : Effect) : Type 0 where

@@ -1,4 +1,5 @@
-pub mod Kept
+-- Definitions of code_verifier: the verifier, exact in what it accepts and in the first fault.
+pub mod ShapesByNumber
 pub mod Trie
 pub mod Effects
 pub mod Marking

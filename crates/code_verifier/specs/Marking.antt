@@ -6,7 +6,7 @@ use Rattle.code_rules.specs.Shapes.{Shape, same_shape}
 use Rattle.code_rules.specs.Pass as pass
 use Rattle.code_rules.specs.Pass.{Note, Passed, jumped}
 use Rattle.code_verifier.specs.declared.mark.Mark.{Mark}
-use Rattle.code_verifier.specs.Kept.{shape_at}
+use Rattle.code_verifier.specs.ShapesByNumber.{shape_at}
 
 abbrev pub InRange : List Shape → Option Mark → Type 0
 InRange shapes o = (m : Mark) → o ≡ Some m → m.shape < length shapes

@@ -4,7 +4,7 @@ use Rattle.rev_num.specs.declared.value.ValueKind.{ValueKind}
 use Rattle.rev_num.specs.declared.value.ValueKind.TheVariants as k
 use Rattle.code_rules.specs.Shapes.{Shape}
 use Rattle.code_verifier.specs.declared.node.Node.{Node}
-use Rattle.code_verifier.specs.Kept.{shape_at}
+use Rattle.code_verifier.specs.ShapesByNumber.{shape_at}
 
 -- the shape of a node, behind these: the first is empty
 abbrev pub shape_on : List Shape → Node → Shape

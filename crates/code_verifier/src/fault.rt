@@ -2,7 +2,7 @@
 
 /// Where code breaks a rule, the block and the instruction by their numbers, or that memory is
 /// wanting.
-#[derive(Clone, Copy, PartialEq, Eq, Debug)]
+#[derive(Clone, Copy)]
 pub enum CodeFault {
     BadJump { block: u32, at: u32 },
     BadOperand { block: u32, at: u32 },

@@ -5,7 +5,7 @@ ghost use Rattle.rev_code.specs.Printing.{printed_kinds};
 ghost use Rattle.rev_code.specs.Step as meaning;
 ghost use Rattle.code_rules.specs.Shapes as shape;
 ghost use Rattle.code_rules.specs.Pass as pass;
-ghost use Rattle.code_verifier.specs.Kept.{first};
+ghost use Rattle.code_verifier.specs.ShapesByNumber.{first};
 
 use crate::instr::{is_fun, is_pure};
 use code_tables::{is_procedure, is_value_class};

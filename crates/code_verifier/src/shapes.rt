@@ -2,7 +2,7 @@
 
 ghost use Rattle.std.specs.Prelude.{◌≡◌, ◌<◌, ◌∷◌, ◌^◌, length, IfOk, []};
 ghost use Rattle.code_rules.specs.Shapes.{same_shape};
-ghost use Rattle.code_verifier.specs.Kept.{IsPushed, shape_at, first, rest};
+ghost use Rattle.code_verifier.specs.ShapesByNumber.{IsPushed, shape_at, first, rest};
 
 use crate::node::Node;
 use rev_num::ValueKind;

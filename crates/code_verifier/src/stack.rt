@@ -2,7 +2,7 @@
 
 ghost use Rattle.std.specs.Prelude.{◌≡◌, ◌<◌, drop, length, IfOk};
 ghost use Rattle.code_rules.specs.Shapes.{begins};
-ghost use Rattle.code_verifier.specs.Kept.{shape_at};
+ghost use Rattle.code_verifier.specs.ShapesByNumber.{shape_at};
 ghost use Rattle.code_verifier.specs.Effects.{IsEffect};
 
 use crate::operands::{gives, takes};

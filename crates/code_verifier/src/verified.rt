@@ -2,7 +2,7 @@
 
 ghost use Rattle.std.specs.Prelude.{◌≡◌};
 ghost use Rattle.code_verifier.specs.Verdicts.{KeepsRules};
-ghost use Rattle.code_soundness.specs.Whole.{IsAccepted, notes_of};
+ghost use Rattle.code_soundness.specs.AcceptedCode.{IsAccepted, notes_of};
 
 use rev_code::Code;
 

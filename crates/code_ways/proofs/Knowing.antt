@@ -13,7 +13,7 @@ use Rattle.code_rules.specs.Shapes.{Shape, same_shape, shape_after}
 use Rattle.code_rules.specs.Pass.{Note, entry, arrival, before, fallen, jumped, joined, leads_to, meet, is_other, clashes, falls, target, paid_after, is_charge, is_value_class, bad_jump, no_cost}
 use Rattle.code_soundness.specs.Certificate.{Fits, leaves, note_at}
 use Rattle.code_soundness.proofs.Basics.{and_parts, same_is, not_false, some_eq, none_some, within_some, before_next, before_length, same_self}
-use Rattle.code_soundness.proofs.Meeting.{meet_now, meet_mark, leads_self, leads_is}
+use Rattle.code_soundness.proofs.ShapesOnArrival.{meet_now, meet_mark, leads_self, leads_is}
 use Rattle.code_soundness.proofs.Accepted.{Whole}
 use Rattle.code_ways.specs.Ways.{IsStart, first, behind, Arrives, starts, falls_on, jumps_on, Way, begins, goes_on, jumps}
 pub use Rattle.rev_num.proofs.Lists.{or_true}

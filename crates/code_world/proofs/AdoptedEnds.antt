@@ -9,13 +9,13 @@ use Rattle.version_map.specs.declared.end.EndValue.{EndValue}
 use Rattle.code_machine.specs.Local.{CodeRun, Local, at_work}
 use Rattle.code_machine.specs.Machines.{numbered}
 use Rattle.code_world.specs.declared.answer.LegAnswer.{LegAnswer}
-use Rattle.code_world.specs.declared.slot.Slot.{Slot}
-use Rattle.code_world.specs.declared.slot.Slot.TheVariants as slot
+use Rattle.code_world.specs.declared.slot.WorldSlot.{WorldSlot}
+use Rattle.code_world.specs.declared.slot.WorldSlot.TheVariants as slot
 use Rattle.code_world.specs.declared.table.Table.{Table}
 use Rattle.code_world.specs.declared.world.World as rust
 use Rattle.code_world.specs.Adopted.{EndsSo}
 use Rattle.code_world.specs.Answers.{Answers, LegAnswers, world_after}
-use Rattle.code_world.specs.Came.{HasEnded}
+use Rattle.code_world.specs.LegOutcomes.{HasEnded}
 use Rattle.code_world.specs.Slots.{WholeRunner, IsSlot, IsEntry}
 use Rattle.code_world.specs.Tables.{AreSlots, IsTable}
 use Rattle.code_world.specs.Turns.{IsGood, ends_with}
@@ -26,16 +26,16 @@ use Rattle.code_world.proofs.Turning.{runner, ends_so}
 use Rattle.code_world.proofs.Worlds.{in_world}
 
 -- what a table has of an unmarked revision of its world
-pub record SlotOf (g : CodeRun) (ss : List Slot) (n : ℕ) (l : Local ℕ) : Type 0 where
-  pub slot : Slot
+pub record SlotOf (g : CodeRun) (ss : List WorldSlot) (n : ℕ) (l : Local ℕ) : Type 0 where
+  pub slot : WorldSlot
   pub there : at_number ss n ≡ Some slot
   pub is : IsSlot g slot l
 
-pub slot_of : (g : CodeRun) (ss : List Slot) (w : Entries (Local ℕ)) → AreSlots g ss w
+pub slot_of : (g : CodeRun) (ss : List WorldSlot) (w : Entries (Local ℕ)) → AreSlots g ss w
     → (n : ℕ) (r : Path) (l : Local ℕ) → at_number w n ≡ Some (r, Plain l) → SlotOf g ss n l
 slot_of g ss w h n r l there = by (at_number ss n) refl
   where
-    same : (q : Path) (e : Entry (Local ℕ)) (s : Slot) → at_number w n ≡ Some (q, e) → IsEntry g s e → IsSlot g s l
+    same : (q : Path) (e : Entry (Local ℕ)) (s : WorldSlot) → at_number w n ≡ Some (q, e) → IsEntry g s e → IsSlot g s l
     same q (Plain k) s at is = subst (IsSlot g s) (plain_same (at_number w n) r q l k there at) is
     same q (Joined k) s at is =
         absurd (let z : Some (q, Joined k) ≡ Some (r, Plain l) = sym at ∙ there in
@@ -43,7 +43,7 @@ slot_of g ss w h n r l there = by (at_number ss n) refl
         let x : Joined k ≡ Plain l = ap (λ (p : Path × Entry (Local ℕ)). p.1) y in
         cc)
 
-    by : (o : Option Slot) → at_number ss n ≡ o → SlotOf g ss n l
+    by : (o : Option WorldSlot) → at_number ss n ≡ o → SlotOf g ss n l
     by None e = none_some (sym (slot_none g ss w h n e) ∙ there)
     by (Some s) e = let x = slot_at g ss w h n s e in record { slot = s; there = e; is = same x.0 x.1 s x.2 x.3 }
 
@@ -53,7 +53,7 @@ pub ends_running : (g : CodeRun) (t : Table) (w : Entries (Local ℕ)) (n : ℕ)
 ends_running g t w n v is e =
     let x = slot_of g t.slots.items w is.slots n e.path (at_work e.state) e.there in by x.slot x.there x.is
   where
-    by : (s : Slot) → at_number t.slots.items n ≡ Some s → IsSlot g s (at_work e.state)
+    by : (s : WorldSlot) → at_number t.slots.items n ≡ Some s → IsSlot g s (at_work e.state)
         → (r : WholeRunner) × (at_number t.slots.items n ≡ Some (slot.Running r))
     by (slot.Running r) there k = (r, there)
     by (slot.Standing a) there (c, same, c', comes, stands) =

@@ -5,7 +5,7 @@ use Rattle.std.specs.Prelude.{◌==◌, slice_get, slice_index}
 use Rattle.rev_num.proofs.Options.{none_some, some_eq}
 use Rattle.rev_code.specs.Words.{Word}
 use Rattle.rev_code.specs.State.{State}
-use Rattle.plain_words.specs.Agreement.{IsWord, AreWords}
+use Rattle.block_run.specs.Agreement.{IsWord, AreWords}
 use Rattle.block_run.specs.Area.{count}
 use Rattle.block_run.specs.Standing.{IsSeen}
 use Rattle.version_map.specs.declared.delta.Delta.{Delta}
@@ -19,8 +19,8 @@ use Rattle.code_machine_laws.specs.Reached.{IsReached}
 use Rattle.rev_vm.specs.Values.{runner_delta, runner_snapshot}
 use Rattle.rev_vm.proofs.Born.{delta_size, over, runner_many, runner_seen, runner_size}
 use Rattle.code_world.specs.declared.freshness.FreshStart.{FreshStart}
-use Rattle.code_world.specs.declared.slot.Slot.{Slot}
-use Rattle.code_world.specs.declared.slot.Slot.TheVariants as slot
+use Rattle.code_world.specs.declared.slot.WorldSlot.{WorldSlot}
+use Rattle.code_world.specs.declared.slot.WorldSlot.TheVariants as slot
 use Rattle.code_world.specs.declared.table.Table.{Table}
 use Rattle.code_world.specs.declared.world.World as rust_world
 use Rattle.code_world.specs.declared.world.World.TheVariants as world
@@ -141,7 +141,7 @@ pub other_not : (g : CodeRun) (t : Table) (w : Entries (Local ℕ)) → IsGood g
 other_not g t w h n other p c f there fresh =
     let x = slot_of g t.slots.items w h.table.slots n p (at_work c) there in by x.slot x.there x.is
   where
-    by : (s : Slot) → at_number t.slots.items n ≡ Some s → IsSlot g s (at_work c)
+    by : (s : WorldSlot) → at_number t.slots.items n ≡ Some s → IsSlot g s (at_work c)
         → (a : WholeJoin) × (at_number t.slots.items n ≡ Some (slot.Standing a))
     by (slot.Running r) e is = absurd (other r e)
     by (slot.Standing a) e is = (a, e)
@@ -151,7 +151,7 @@ other_not g t w h n other p c f there fresh =
 
 -- ---- places of a table
 
-pub running_there : (o : Option Slot) (r : WholeRunner) → Some r ≡ running_in o → o ≡ Some (slot.Running r)
+pub running_there : (o : Option WorldSlot) (r : WholeRunner) → Some r ≡ running_in o → o ≡ Some (slot.Running r)
 running_there (Some (slot.Running q)) r e = ap (λ z. Some (slot.Running z)) (sym (some_eq e))
 running_there (Some (slot.Standing a)) r e = none_some (sym e)
 running_there (Some (slot.Ended v)) r e = none_some (sym e)
@@ -159,7 +159,7 @@ running_there (Some (slot.Joined v)) r e = none_some (sym e)
 running_there (Some slot.Taken) r e = none_some (sym e)
 running_there None r e = none_some (sym e)
 
-pub not_running : (o : Option Slot) → None ≡ running_in o → (r : WholeRunner) → o ≢ Some (slot.Running r)
+pub not_running : (o : Option WorldSlot) → None ≡ running_in o → (r : WholeRunner) → o ≢ Some (slot.Running r)
 not_running o e r is = none_some (e ∙ ap running_in is)
 
 -- ---- worlds

@@ -17,7 +17,7 @@ use Rattle.code_machine.specs.Machines.{fork, act_of, wish_of}
 use Rattle.rev_vm.specs.Legs.{trap_of}
 use Rattle.rev_vm.specs.Meaning.{IsClaimed, IsEnd, IsPhase, IsTrap}
 use Rattle.code_world.specs.Slots.{WholeRunner, WholeJoin, words, Runs}
-use Rattle.code_world.specs.Came.{HasForked, HasEnded, IsMeeting, meets}
+use Rattle.code_world.specs.LegOutcomes.{HasForked, HasEnded, IsMeeting, meets}
 
 -- a fork of a child in this block
 pub has_forked : (g : CodeRun) (number : ℕ) (c d : State ℕ) (n : ℕ) (args : List (Word ℕ)) → leg g c ≡ forks d n args

@@ -9,8 +9,8 @@ use Rattle.version_map.specs.declared.end.EndValue.{EndValue}
 use Rattle.code_machine.specs.Local.{CodeRun, Local, running, done, trapped, at_work}
 use Rattle.code_machine.specs.Proper.{IsOver}
 use Rattle.code_world.specs.declared.ending.MainEnd.{MainEnd}
-use Rattle.code_world.specs.declared.slot.Slot.{Slot}
-use Rattle.code_world.specs.declared.slot.Slot.TheVariants as slot
+use Rattle.code_world.specs.declared.slot.WorldSlot.{WorldSlot}
+use Rattle.code_world.specs.declared.slot.WorldSlot.TheVariants as slot
 use Rattle.code_world.specs.declared.table.Birth.{Birth}
 use Rattle.code_world.specs.declared.table.Table.{Table}
 use Rattle.code_world.specs.declared.world.World as rust
@@ -39,7 +39,7 @@ module _ (g : CodeRun) (t : Table) (w : Entries (Local ℕ)) (is : IsTable g t w
   pub has_ended : IsOver l → (v : EndValue) × (at_number t.slots.items 0 ≡ Some (slot.Ended v))
   has_ended over = by (at_number t.slots.items 0) refl
     where
-      by : (o : Option Slot) → at_number t.slots.items 0 ≡ o
+      by : (o : Option WorldSlot) → at_number t.slots.items 0 ≡ o
           → (v : EndValue) × (at_number t.slots.items 0 ≡ Some (slot.Ended v))
       by None e = none_some (sym (slot_none g t.slots.items w is.slots 0 e) ∙ at)
       by (Some (slot.Ended v)) e = (v, e)
@@ -97,7 +97,7 @@ module _ (g : CodeRun) (v : rust.World) (w : World (Local ℕ)) (is : IsWorld g 
 -- ---- what a revision left
 
 module _ (g : CodeRun) (t : Table) (w : Entries (Local ℕ)) (is : IsTable g t w) (n : ℕ) where
-  end_at : (o : Option Slot) → at_number t.slots.items n ≡ o → IsEndAt g (Listing w) n (left_in o)
+  end_at : (o : Option WorldSlot) → at_number t.slots.items n ≡ o → IsEndAt g (Listing w) n (left_in o)
   end_at None e = λ r f there. none_some (sym (slot_none g t.slots.items w is.slots n e) ∙ there)
   end_at (Some (slot.Ended v)) e =
       let x = ended_at g t.slots.items w is.slots n v e in (x.path, Plain x.local, x.there, x.end)

@@ -16,8 +16,8 @@ use Rattle.rev_vm.specs.Meaning.{IsEnd, IsPhase}
 use Rattle.code_machine_laws.specs.Reached.{IsReached, most_fuel}
 use Rattle.code_machine_laws.specs.Laws.{HasNumber}
 use Rattle.code_machine_laws.proofs.Reaching.{joinees, small}
-use Rattle.code_world.specs.declared.slot.Slot.{Slot}
-use Rattle.code_world.specs.declared.slot.Slot.TheVariants as slot
+use Rattle.code_world.specs.declared.slot.WorldSlot.{WorldSlot}
+use Rattle.code_world.specs.declared.slot.WorldSlot.TheVariants as slot
 use Rattle.code_world.specs.declared.table.Stage.TheVariants as stage
 use Rattle.code_world.specs.Slots.{WholeRunner, WholeJoin, Runs, StandsAtJoin, IsEntry}
 use Rattle.code_world.specs.Tables.{AreSlots}
@@ -27,7 +27,7 @@ use Rattle.revision_machine.proofs.Lists.{at_below}
 
 -- ---- stages
 
-pub stage_none : (o : Option Slot) → IsStage o stage.NoSuch → (o ≡ None) ⊎ (o ≡ Some slot.Taken)
+pub stage_none : (o : Option WorldSlot) → IsStage o stage.NoSuch → (o ≡ None) ⊎ (o ≡ Some slot.Taken)
 stage_none None e = inl refl
 stage_none (Some slot.Taken) e = inr refl
 stage_none (Some (slot.Running r)) e = absurd (let z : stage.NoSuch ≡ stage.Running = e in cc)
@@ -35,7 +35,7 @@ stage_none (Some (slot.Standing a)) e = absurd (let z : stage.NoSuch ≡ stage.S
 stage_none (Some (slot.Ended v)) e = absurd (let z : stage.NoSuch ≡ stage.Ended = e in cc)
 stage_none (Some (slot.Joined v)) e = absurd (let z : stage.NoSuch ≡ stage.Joined = e in cc)
 
-pub stage_running : (o : Option Slot) → IsStage o stage.Running → (r : WholeRunner) × (o ≡ Some (slot.Running r))
+pub stage_running : (o : Option WorldSlot) → IsStage o stage.Running → (r : WholeRunner) × (o ≡ Some (slot.Running r))
 stage_running None e = absurd (let z : stage.Running ≡ stage.NoSuch = e in cc)
 stage_running (Some (slot.Running r)) e = (r, refl)
 stage_running (Some (slot.Standing a)) e = absurd (let z : stage.Running ≡ stage.Standing a.on = e in cc)
@@ -43,7 +43,7 @@ stage_running (Some (slot.Ended v)) e = absurd (let z : stage.Running ≡ stage.
 stage_running (Some (slot.Joined v)) e = absurd (let z : stage.Running ≡ stage.Joined = e in cc)
 stage_running (Some slot.Taken) e = absurd (let z : stage.Running ≡ stage.NoSuch = e in cc)
 
-pub stage_standing : (o : Option Slot) (on : ℕ) → IsStage o (stage.Standing on)
+pub stage_standing : (o : Option WorldSlot) (on : ℕ) → IsStage o (stage.Standing on)
     → (a : WholeJoin) × (o ≡ Some (slot.Standing a)) × (a.on ≡ on)
 stage_standing None on e = absurd (let z : stage.Standing on ≡ stage.NoSuch = e in cc)
 stage_standing (Some (slot.Running r)) on e = absurd (let z : stage.Standing on ≡ stage.Running = e in cc)
@@ -53,7 +53,7 @@ stage_standing (Some (slot.Ended v)) on e = absurd (let z : stage.Standing on �
 stage_standing (Some (slot.Joined v)) on e = absurd (let z : stage.Standing on ≡ stage.Joined = e in cc)
 stage_standing (Some slot.Taken) on e = absurd (let z : stage.Standing on ≡ stage.NoSuch = e in cc)
 
-pub stage_ended : (o : Option Slot) → IsStage o stage.Ended → (v : EndValue) × (o ≡ Some (slot.Ended v))
+pub stage_ended : (o : Option WorldSlot) → IsStage o stage.Ended → (v : EndValue) × (o ≡ Some (slot.Ended v))
 stage_ended None e = absurd (let z : stage.Ended ≡ stage.NoSuch = e in cc)
 stage_ended (Some (slot.Running r)) e = absurd (let z : stage.Ended ≡ stage.Running = e in cc)
 stage_ended (Some (slot.Standing a)) e = absurd (let z : stage.Ended ≡ stage.Standing a.on = e in cc)
@@ -61,7 +61,7 @@ stage_ended (Some (slot.Ended v)) e = (v, refl)
 stage_ended (Some (slot.Joined v)) e = absurd (let z : stage.Ended ≡ stage.Joined = e in cc)
 stage_ended (Some slot.Taken) e = absurd (let z : stage.Ended ≡ stage.NoSuch = e in cc)
 
-pub stage_joined : (o : Option Slot) → IsStage o stage.Joined → (v : EndValue) × (o ≡ Some (slot.Joined v))
+pub stage_joined : (o : Option WorldSlot) → IsStage o stage.Joined → (v : EndValue) × (o ≡ Some (slot.Joined v))
 stage_joined None e = absurd (let z : stage.Joined ≡ stage.NoSuch = e in cc)
 stage_joined (Some (slot.Running r)) e = absurd (let z : stage.Joined ≡ stage.Running = e in cc)
 stage_joined (Some (slot.Standing a)) e = absurd (let z : stage.Joined ≡ stage.Standing a.on = e in cc)
@@ -71,7 +71,7 @@ stage_joined (Some slot.Taken) e = absurd (let z : stage.Joined ≡ stage.NoSuch
 
 -- ---- entries
 
-module _ (g : CodeRun) (ss : List Slot) (w : Entries (Local ℕ)) (h : AreSlots g ss w) (n : ℕ) where
+module _ (g : CodeRun) (ss : List WorldSlot) (w : Entries (Local ℕ)) (h : AreSlots g ss w) (n : ℕ) where
   pub record RunsAt (r : WholeRunner) : Type 0 where
     pub path : Path
     pub state : State ℕ

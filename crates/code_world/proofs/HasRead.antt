@@ -7,10 +7,10 @@ use Rattle.revision_machine.specs.Numbered.{Entries, World, Both, Listing, at_nu
 use Rattle.code_machine.specs.Local.{CodeRun, IsVerified, Local, at_work}
 use Rattle.code_reads.specs.Legs.{leg_reads}
 use Rattle.code_machine_laws.specs.Reached.{IsReached}
-use Rattle.noting_run.specs.declared.notes.Noted.{Noted}
+use Rattle.noting_run.specs.declared.notes.ReadMarks.{ReadMarks}
 use Rattle.noting_run.specs.Marks.{marks_of, HasMarked}
-use Rattle.code_world.specs.declared.slot.Slot.{Slot}
-use Rattle.code_world.specs.declared.slot.Slot.TheVariants as slot
+use Rattle.code_world.specs.declared.slot.WorldSlot.{WorldSlot}
+use Rattle.code_world.specs.declared.slot.WorldSlot.TheVariants as slot
 use Rattle.code_world.specs.declared.table.Stage.{Stage}
 use Rattle.code_world.specs.declared.table.Stage.TheVariants as stage
 use Rattle.code_world.specs.declared.table.Table.{Table}
@@ -24,19 +24,19 @@ use Rattle.code_world.proofs.Ended.{plain_same}
 use Rattle.code_world.proofs.Worlds.{world_live}
 
 pub read_there : (g : CodeRun) (w : Entries (Local ℕ)) (n : ℕ) (p : Path) (c : State ℕ)
-    → at_number w n ≡ Some (p, Plain (at_work c)) → (old new : Noted) → HasMarked old new (marks_of (leg_reads g c))
+    → at_number w n ≡ Some (p, Plain (at_work c)) → (old new : ReadMarks) → HasMarked old new (marks_of (leg_reads g c))
     → HasRead g w n old new
 read_there g w n p c there old new h q d also =
     let same = plain_same (at_number w n) p q (at_work c) (at_work d) there also in
     subst (λ e. HasMarked old new (marks_of (leg_reads g e))) (sym (ap (λ (l : Local ℕ). l.state) same)) h
 
-pub read_running : (g : CodeRun) (w : Entries (Local ℕ)) (n : ℕ) (o : Option Slot) (r : WholeRunner)
-    → o ≡ Some (slot.Running r) → (old new : Noted) → HasRead g w n old new → HasReadOf g o w n old new
+pub read_running : (g : CodeRun) (w : Entries (Local ℕ)) (n : ℕ) (o : Option WorldSlot) (r : WholeRunner)
+    → o ≡ Some (slot.Running r) → (old new : ReadMarks) → HasRead g w n old new → HasReadOf g o w n old new
 read_running g w n o r is old new h = subst (λ z. HasReadOf g z w n old new) (sym is) h
 
 -- of one that does not run nothing is noted
-pub not_read : (g : CodeRun) (w : Entries (Local ℕ)) (n : ℕ) (o : Option Slot) (st : Stage) → IsStage o st
-    → st ≢ stage.Running → (x : Noted) → HasReadOf g o w n x x
+pub not_read : (g : CodeRun) (w : Entries (Local ℕ)) (n : ℕ) (o : Option WorldSlot) (st : Stage) → IsStage o st
+    → st ≢ stage.Running → (x : ReadMarks) → HasReadOf g o w n x x
 not_read g w n None st h other x = refl
 not_read g w n (Some (slot.Running r)) st h other x = absurd (other h)
 not_read g w n (Some (slot.Standing a)) st h other x = refl
@@ -46,7 +46,7 @@ not_read g w n (Some slot.Taken) st h other x = refl
 
 -- of a world
 pub read_in : (g : CodeRun) (v : rust.World) (w : World (Local ℕ)) (t : Table) → v ≡ world.Live t → IsReached g w
-    → IsWorld g v w → IsVerified g → (n : ℕ) (old new : Noted)
+    → IsWorld g v w → IsVerified g → (n : ℕ) (old new : ReadMarks)
     → ((x : Entries (Local ℕ)) → IsGood g t x → HasReadOf g (at_number t.slots.items n) x n old new)
     → HasReadIn g v w n old new
 read_in g v w t e reached is ok n old new all =
@@ -55,7 +55,7 @@ read_in g v w t e reached is ok n old new all =
     (subst (λ z. HasReadIn g (world.Live t) z n old new) (sym k.1)
     (all k.0 (record { verified = ok; reached = subst (IsReached g) k.1 reached; table = k.2 })))
 
-pub read_twice : (g : CodeRun) (v : rust.World) (w : World (Local ℕ)) → v ≡ world.Twice → (n : ℕ) (x : Noted)
+pub read_twice : (g : CodeRun) (v : rust.World) (w : World (Local ℕ)) → v ≡ world.Twice → (n : ℕ) (x : ReadMarks)
     → HasReadIn g v w n x x
 read_twice g v w e n x = subst (λ z. HasReadIn g z w n x x) (sym e) (by w)
   where

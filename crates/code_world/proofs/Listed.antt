@@ -17,7 +17,7 @@ use Rattle.code_machine.specs.Local.{CodeRun, Local, at_work}
 use Rattle.code_machine.specs.Machines.{fork, act_of, wish_of, numbered}
 use Rattle.code_world.specs.declared.answer.LegAnswer.{LegAnswer}
 use Rattle.code_world.specs.declared.answer.LegAnswer.TheVariants as answer
-use Rattle.code_world.specs.Came.{ForksInLine}
+use Rattle.code_world.specs.LegOutcomes.{ForksInLine}
 use Rattle.code_world.specs.Meetings.{HasMeeting, MeetingOf, HasNoted, join_meeting}
 use Rattle.code_world.specs.Turns.{ends_with}
 

@@ -5,7 +5,7 @@ use Rattle.revision_machine.specs.Machine.{Entry}
 use Rattle.revision_machine.specs.Laws.{local_of}
 use Rattle.revision_machine.specs.Numbered.{Entries, at_number, put_number}
 use Rattle.code_machine.specs.Local.{CodeRun, Local}
-use Rattle.code_world.specs.declared.slot.Slot.{Slot}
+use Rattle.code_world.specs.declared.slot.WorldSlot.{WorldSlot}
 use Rattle.code_world.specs.declared.table.Birth.{Birth}
 use Rattle.code_world.specs.Slots.{IsEntry}
 use Rattle.code_world.specs.Tables.{AreSlots, AreForks, HasPath, AreNamed, forks_of}
@@ -23,7 +23,7 @@ module _ {A : Type 0} where
 -- ---- slots
 
 module _ (g : CodeRun) where
-  pub slot_at : (ss : List Slot) (w : Entries (Local ℕ)) → AreSlots g ss w → (n : ℕ) (s : Slot)
+  pub slot_at : (ss : List WorldSlot) (w : Entries (Local ℕ)) → AreSlots g ss w → (n : ℕ) (s : WorldSlot)
       → at_number ss n ≡ Some s
       → (r : Path) × (e : Entry (Local ℕ)) × (at_number w n ≡ Some (r, e)) × IsEntry g s e
   slot_at [] [] h n s e = none_some e
@@ -32,7 +32,7 @@ module _ (g : CodeRun) where
   slot_at [] (y ∷ w) h n s e = absurd h
   slot_at (x ∷ ss) [] h n s e = absurd h
 
-  pub slot_none : (ss : List Slot) (w : Entries (Local ℕ)) → AreSlots g ss w → (n : ℕ) → at_number ss n ≡ None
+  pub slot_none : (ss : List WorldSlot) (w : Entries (Local ℕ)) → AreSlots g ss w → (n : ℕ) → at_number ss n ≡ None
       → at_number w n ≡ None
   slot_none [] [] h n e = refl
   slot_none (x ∷ ss) (y ∷ w) h zero e = none_some (sym e)
@@ -40,14 +40,14 @@ module _ (g : CodeRun) where
   slot_none [] (y ∷ w) h n e = absurd h
   slot_none (x ∷ ss) [] h n e = absurd h
 
-  pub slots_many : (ss : List Slot) (w : Entries (Local ℕ)) → AreSlots g ss w → length ss ≡ length w
+  pub slots_many : (ss : List WorldSlot) (w : Entries (Local ℕ)) → AreSlots g ss w → length ss ≡ length w
   slots_many [] [] h = refl
   slots_many (x ∷ ss) (y ∷ w) h = ap suc (slots_many ss w h.1)
   slots_many [] (y ∷ w) h = absurd h
   slots_many (x ∷ ss) [] h = absurd h
 
-  pub slots_put : (ss : List Slot) (w : Entries (Local ℕ)) → AreSlots g ss w
-      → (n : ℕ) (s : Slot) (r : Path) (e : Entry (Local ℕ)) → IsEntry g s e
+  pub slots_put : (ss : List WorldSlot) (w : Entries (Local ℕ)) → AreSlots g ss w
+      → (n : ℕ) (s : WorldSlot) (r : Path) (e : Entry (Local ℕ)) → IsEntry g s e
       → AreSlots g (put_number ss n s) (put_number w n (r, e))
   slots_put [] [] h n s r e is = tt
   slots_put (x ∷ ss) (y ∷ w) h zero s r e is = (is, h.1)
@@ -55,8 +55,8 @@ module _ (g : CodeRun) where
   slots_put [] (y ∷ w) h n s r e is = absurd h
   slots_put (x ∷ ss) [] h n s r e is = absurd h
 
-  pub slots_more : (ss : List Slot) (w : Entries (Local ℕ)) → AreSlots g ss w
-      → (s : Slot) (r : Path) (e : Entry (Local ℕ)) → IsEntry g s e
+  pub slots_more : (ss : List WorldSlot) (w : Entries (Local ℕ)) → AreSlots g ss w
+      → (s : WorldSlot) (r : Path) (e : Entry (Local ℕ)) → IsEntry g s e
       → AreSlots g (ss ++ s ∷ []) (w ++ (r, e) ∷ [])
   slots_more [] [] h s r e is = (is, tt)
   slots_more (x ∷ ss) (y ∷ w) h s r e is = (h.0, slots_more ss w h.1 s r e is)

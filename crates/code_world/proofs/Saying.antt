@@ -6,8 +6,8 @@ use Rattle.revision_machine.proofs.Lists.{at_there}
 use Rattle.code_machine.specs.Local.{CodeRun, Local}
 use Rattle.rev_vm.specs.Values.{runner_text}
 use Rattle.rev_vm.proofs.Born.{runner_text_is}
-use Rattle.code_world.specs.declared.slot.Slot.{Slot}
-use Rattle.code_world.specs.declared.slot.Slot.TheVariants as slot
+use Rattle.code_world.specs.declared.slot.WorldSlot.{WorldSlot}
+use Rattle.code_world.specs.declared.slot.WorldSlot.TheVariants as slot
 use Rattle.code_world.specs.declared.table.Table.{Table}
 use Rattle.code_world.specs.declared.world.World as rust
 use Rattle.code_world.specs.declared.world.World.TheVariants as world
@@ -25,12 +25,12 @@ pub stands_text : (g : CodeRun) (a : WholeJoin) (c : State ℕ) → StandsAtJoin
     → c.text ≡ a.revision.value.run.text.items
 stands_text g a c at = at.stands.stands.text
 
-pub first_slot : (xs ys : List Slot) (f s : Slot) → ys ≡ xs → 0 < length ys → f ≡ get_or ys 0 f → f ≡ s
+pub first_slot : (xs ys : List WorldSlot) (f s : WorldSlot) → ys ≡ xs → 0 < length ys → f ≡ get_or ys 0 f → f ≡ s
     → at_number xs 0 ≡ Some s
 first_slot xs ys f s e less get is =
-    ap (λ (z : List Slot). at_number z 0) (sym e) ∙ at_there ys 0 f less ∙ ap (λ (z : Slot). Some z) (sym get ∙ is)
+    ap (λ (z : List WorldSlot). at_number z 0) (sym e) ∙ at_there ys 0 f less ∙ ap (λ (z : WorldSlot). Some z) (sym get ∙ is)
 
-module _ (g : CodeRun) (ss : List Slot) (w : Entries (Local ℕ)) (h : AreSlots g ss w) (text : List ℕ) where
+module _ (g : CodeRun) (ss : List WorldSlot) (w : Entries (Local ℕ)) (h : AreSlots g ss w) (text : List ℕ) where
   pub running_said : (r : WholeRunner) → at_number ss 0 ≡ Some (slot.Running r)
       → ((x : CodeRun) (c : State ℕ) → Runs x r c → text ≡ c.text) → text ≡ slot_text (at_number ss 0)
   running_said r e says =
@@ -53,4 +53,4 @@ module _ (g : CodeRun) (v : rust.World) (w : World (Local ℕ)) (is : IsWorld g 
 -- at the start
 pub first_silent : (g : CodeRun) (fuel : ℕ) (r : WholeRunner) → IsFirst g fuel r → (t : Table) → IsAlone r t
     → main_text (world.Live t) ≡ []
-first_silent g fuel r f t a = ap (λ (ss : List Slot). slot_text (at_number ss 0)) a.slots ∙ sym (runs_text g r _ f.runs)
+first_silent g fuel r f t a = ap (λ (ss : List WorldSlot). slot_text (at_number ss 0)) a.slots ∙ sym (runs_text g r _ f.runs)

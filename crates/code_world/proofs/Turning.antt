@@ -15,7 +15,7 @@ use Rattle.code_machine.specs.Joining.{merges, mains, absorb, join_in, join_end,
 use Rattle.code_machine.specs.Machines.{act, numbered}
 use Rattle.code_machine.specs.Worlds.{Joins, WaitsOn}
 use Rattle.revision_machine.proofs.Lists.{put_other, put_here, put_twice, put_length, put_both, at_below, at_front, put_same}
-use Rattle.code_machine.proofs.Meeting.{named_counts}
+use Rattle.code_machine.proofs.MachineConditions.{named_counts}
 use Rattle.code_machine.proofs.Paying.{BearOk, ActOk, act_ok, join_keeps_forks}
 use Rattle.code_machine.proofs.Typing.{bears_act}
 use Rattle.rev_vm.specs.Meaning.{IsEnd, IsPhase}
@@ -23,12 +23,12 @@ use Rattle.code_machine_laws.specs.Reached.{most_fuel}
 use Rattle.code_machine_laws.proofs.Reaching.{joins_fit, small}
 use Rattle.code_world.specs.declared.answer.LegAnswer.{LegAnswer}
 use Rattle.code_world.specs.declared.answer.LegAnswer.TheVariants as answer
-use Rattle.code_world.specs.declared.slot.Slot.{Slot}
-use Rattle.code_world.specs.declared.slot.Slot.TheVariants as slot
+use Rattle.code_world.specs.declared.slot.WorldSlot.{WorldSlot}
+use Rattle.code_world.specs.declared.slot.WorldSlot.TheVariants as slot
 use Rattle.code_world.specs.declared.table.Birth.{Birth}
 use Rattle.code_world.specs.declared.table.Table.{Table}
 use Rattle.code_world.specs.Answers.{Leaves, Answers}
-use Rattle.code_world.specs.Came.{HasForked, HasEnded, IsMeeting, meets, HasMet}
+use Rattle.code_world.specs.LegOutcomes.{HasForked, HasEnded, IsMeeting, meets, HasMet}
 use Rattle.code_world.specs.Slots.{WholeRunner, WholeJoin, IsSlot}
 use Rattle.code_world.specs.Tables.{AreSlots, AreForks, AreNamed, forks_of, IsTable}
 use Rattle.code_world.specs.Turns.{IsGood, born, forked_once, behind, ends_with, Settles}
@@ -38,7 +38,7 @@ use Rattle.code_world.proofs.Rows.{none_some, some_same, slots_put, slots_more, 
 module _ (g : CodeRun) (ok : IsVerified g) (t : Table) (w : Entries (Local ℕ)) (h : IsTable g t w) (n : ℕ) (p : Path)
     (l : Local ℕ) (there : at_number w n ≡ Some (p, Plain l)) where
   -- a revision that goes on or ends by itself
-  pub goes_leaves : (l' : Local ℕ) → (numbered g).next l ≡ Goes l' → (s : Slot) → IsSlot g s l' → (t' : Table)
+  pub goes_leaves : (l' : Local ℕ) → (numbered g).next l ≡ Goes l' → (s : WorldSlot) → IsSlot g s l' → (t' : Table)
       → t'.slots.items ≡ put_number t.slots.items n s → t'.births ≡ t.births
       → Leaves g w n t' (put_number w n (p, Plain l'))
   goes_leaves l' goes s is t' slots births = record {
@@ -122,7 +122,7 @@ module _ (g : CodeRun) (ok : IsVerified g) (t : Table) (w : Entries (Local ℕ))
 
   -- a joiner behind its join, and the revision that it joined
   pub took_leaves : (m : ℕ) (q : Path) (lq : Local ℕ) → n ≢ m → (numbered g).next l ≡ Wants m
-      → at_number w m ≡ Some (q, Plain lq) → (v : EndValue) → IsEnd g (end_of lq) v → (s : Slot)
+      → at_number w m ≡ Some (q, Plain lq) → (v : EndValue) → IsEnd g (end_of lq) v → (s : WorldSlot)
       → IsSlot g s (join g l lq)
       → (t' : Table)
       → t'.slots.items ≡ put_number (put_number (put_number t.slots.items m (slot.Joined v)) n slot.Taken) n s
@@ -213,7 +213,7 @@ module _ (g : CodeRun) (t : Table) (w : Entries (Local ℕ)) (h : IsGood g t w) 
     joinee = ended_at g t.slots.items w h.table.slots a.on v end
 
     pub apart : n ≢ a.on
-    apart e = (let z : ◌≡◌ {A = Option Slot} (Some (slot.Standing a)) (Some (slot.Ended v)) =
+    apart e = (let z : ◌≡◌ {A = Option WorldSlot} (Some (slot.Standing a)) (Some (slot.Ended v)) =
         sym at ∙ ap (at_number t.slots.items) e ∙ end in
         let y : slot.Standing a ≡ slot.Ended v = some_same z in
         cc)
@@ -235,7 +235,7 @@ module _ (g : CodeRun) (t : Table) (w : Entries (Local ℕ)) (h : IsGood g t w) 
     after = put_number (put_number w n (joiner.path, Plain (join g (at_work joiner.state) joinee.local))) a.on
         (joinee.path, Joined joinee.local)
 
-    leaves : (s : Slot) → IsSlot g s (meets g a joiner.at (end_of joinee.local)) → (t' : Table)
+    leaves : (s : WorldSlot) → IsSlot g s (meets g a joiner.at (end_of joinee.local)) → (t' : Table)
         → t'.slots.items ≡ put_number (put_number (put_number t.slots.items a.on (slot.Joined v)) n slot.Taken) n s
         → t'.births ≡ t.births → Leaves g w n t' after
     leaves s is t' slots births =
@@ -265,7 +265,7 @@ module _ (g : CodeRun) (t : Table) (w : Entries (Local ℕ)) (h : IsGood g t w) 
         (joinee.path, Joined joinee.local)
         ∙ put_length w n (joiner.path, Plain (join g (at_work joiner.state) joinee.local))
 
-    pub settled : (s : Slot) → HasMet g s (meets g a joiner.at (end_of joinee.local)) → (t' : Table)
+    pub settled : (s : WorldSlot) → HasMet g s (meets g a joiner.at (end_of joinee.local)) → (t' : Table)
         → t'.slots.items ≡ put_number (put_number (put_number t.slots.items a.on (slot.Joined v)) n slot.Taken) n s
         → t'.births ≡ t.births
         → Answers g w n (behind s a.on) t'
@@ -331,15 +331,15 @@ module _ (g : CodeRun) (t : Table) (w : Entries (Local ℕ)) (h : IsGood g t w) 
 
 -- ---- what is taken out of a table
 
-slots_apart : (ss : List Slot) (n m : ℕ) (a : WholeJoin) (v : EndValue) → at_number ss n ≡ Some (slot.Standing a)
+slots_apart : (ss : List WorldSlot) (n m : ℕ) (a : WholeJoin) (v : EndValue) → at_number ss n ≡ Some (slot.Standing a)
     → at_number ss m ≡ Some (slot.Ended v) → n ≢ m
 slots_apart ss n m a v at end e =
-    (let z : ◌≡◌ {A = Option Slot} (Some (slot.Standing a)) (Some (slot.Ended v)) =
+    (let z : ◌≡◌ {A = Option WorldSlot} (Some (slot.Standing a)) (Some (slot.Ended v)) =
     sym at ∙ ap (at_number ss) e ∙ end in
     let y : slot.Standing a ≡ slot.Ended v = some_same z in
     cc)
 
-pub joiner_still : (t : Table) (n on : ℕ) → Settles t n on → (v : EndValue) (ss : List Slot)
+pub joiner_still : (t : Table) (n on : ℕ) → Settles t n on → (v : EndValue) (ss : List WorldSlot)
     → ss ≡ put_number t.slots.items on (slot.Joined v) → at_number ss n ≡ at_number t.slots.items n
 joiner_still t n on q v ss e =
     ap (λ z. at_number z n) e
@@ -352,7 +352,7 @@ pub record Taken (t : Table) (n on : ℕ) (a : WholeJoin) (v : EndValue) : Type 
   pub end : at_number t.slots.items a.on ≡ Some (slot.Ended v)
 
 pub taken : (t : Table) (n on : ℕ) → Settles t n on → (v : EndValue) → at_number t.slots.items on ≡ Some (slot.Ended v)
-    → (ss : List Slot) → ss ≡ put_number t.slots.items on (slot.Joined v)
+    → (ss : List WorldSlot) → ss ≡ put_number t.slots.items on (slot.Joined v)
     → (a : WholeJoin) → at_number ss n ≡ Some (slot.Standing a) → Taken t n on a v
 taken t n on q v end ss e a was = record { number = is; at = at; end = ap (at_number t.slots.items) is ∙ end }
   where
@@ -378,7 +378,7 @@ module _ (g : CodeRun) (t : Table) (w : Entries (Local ℕ)) (h : IsGood g t w) 
   takes = meeting g t w h n a k.at v k.end
 
   -- the joiner behind its join is put back
-  pub settles : (s : Slot) → HasMet g s (meets g a joiner_state joinee_end) → (z : LegAnswer) → z ≡ behind s on
+  pub settles : (s : WorldSlot) → HasMet g s (meets g a joiner_state joinee_end) → (z : LegAnswer) → z ≡ behind s on
       → (t' : Table)
       → t'.slots.items ≡ put_number (put_number (put_number t.slots.items on (slot.Joined v)) n slot.Taken) n s
       → t'.births ≡ t.births → Answers g w n z t'
@@ -436,7 +436,7 @@ module _ (g : CodeRun) (t : Table) (w : Entries (Local ℕ)) (h : IsGood g t w) 
       };
     }
 
-    pub still_standing : (a : WholeJoin) (ss : List Slot)
+    pub still_standing : (a : WholeJoin) (ss : List WorldSlot)
         → ss ≡ put_number (put_number t.slots.items n slot.Taken) n (slot.Standing a)
         → at_number ss n ≡ Some (slot.Standing a)
     still_standing a ss e =

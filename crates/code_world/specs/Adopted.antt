@@ -7,7 +7,7 @@ use Rattle.revision_machine.specs.Machine.{Plain}
 use Rattle.revision_machine.specs.Numbered.{Entries, at_number}
 use Rattle.version_map.specs.declared.end.EndValue.{EndValue}
 use Rattle.code_machine.specs.Local.{CodeRun, Local, at_work}
-use Rattle.code_world.specs.Came.{HasEnded}
+use Rattle.code_world.specs.LegOutcomes.{HasEnded}
 
 pub record EndsSo (g : CodeRun) (w : Entries (Local ℕ)) (n : ℕ) (v : EndValue) : Type 0 where
   pub path : Path

@@ -7,20 +7,20 @@
 use Rattle.std.specs.Prelude.{ℕ, ◌≡◌, Option, Some, None}
 use Rattle.rev_num.specs.Path.{Path}
 use Rattle.rev_code.specs.State.{State}
-use Rattle.plain_words.specs.Agreement.{AreWords}
+use Rattle.block_run.specs.Agreement.{AreWords}
 use Rattle.revision_machine.specs.Machine.{Plain}
 use Rattle.revision_machine.specs.Numbered.{Entries, World, Listing, at_number}
 use Rattle.code_machine.specs.Local.{CodeRun, Local, at_work}
 use Rattle.code_memos.specs.Leaf.{Fresh, IsFresh}
 use Rattle.code_world.specs.declared.freshness.FreshStart.{FreshStart}
-use Rattle.code_world.specs.declared.slot.Slot.{Slot}
-use Rattle.code_world.specs.declared.slot.Slot.TheVariants as slot
+use Rattle.code_world.specs.declared.slot.WorldSlot.{WorldSlot}
+use Rattle.code_world.specs.declared.slot.WorldSlot.TheVariants as slot
 use Rattle.code_world.specs.declared.table.Table.{Table}
 use Rattle.code_world.specs.declared.world.World as rust_world
 use Rattle.code_world.specs.declared.world.World.TheVariants as world
 use Rattle.code_world.specs.Slots.{WholeJoin, WholeRunner}
 
-abbrev pub running_in : Option Slot → Option WholeRunner
+abbrev pub running_in : Option WorldSlot → Option WholeRunner
 running_in (Some (slot.Running r)) = Some r
 running_in _ = None
 

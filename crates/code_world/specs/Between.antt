@@ -9,15 +9,15 @@ use Rattle.revision_machine.specs.Machine.{Plain}
 use Rattle.revision_machine.specs.Numbered.{Entries, World, Listing, at_number, put_number}
 use Rattle.code_machine.specs.Local.{CodeRun, Local, at_work}
 use Rattle.code_reads.specs.Legs.{leg_reads}
-use Rattle.noting_run.specs.declared.notes.Noted.{Noted}
+use Rattle.noting_run.specs.declared.notes.ReadMarks.{ReadMarks}
 use Rattle.noting_run.specs.Marks.{marks_of, HasMarked}
 use Rattle.code_world.specs.declared.advance.Came.{Came}
-use Rattle.code_world.specs.declared.slot.Slot.{Slot}
-use Rattle.code_world.specs.declared.slot.Slot.TheVariants as slot
+use Rattle.code_world.specs.declared.slot.WorldSlot.{WorldSlot}
+use Rattle.code_world.specs.declared.slot.WorldSlot.TheVariants as slot
 use Rattle.code_world.specs.declared.table.Table.{Table}
 use Rattle.code_world.specs.declared.world.World as rust
 use Rattle.code_world.specs.declared.world.World.TheVariants as world
-use Rattle.code_world.specs.Came.{HasCome}
+use Rattle.code_world.specs.LegOutcomes.{HasCome}
 use Rattle.code_world.specs.Slots.{WholeRunner, Runs}
 use Rattle.code_world.specs.Turns.{IsGood}
 
@@ -32,15 +32,15 @@ pub record IsBetween (g : CodeRun) (t : Table) (w : Entries (Local ℕ)) (n : �
 
 -- ---- notes
 
-abbrev pub HasRead : CodeRun → Entries (Local ℕ) → ℕ → (old new : Noted) → Type 0
+abbrev pub HasRead : CodeRun → Entries (Local ℕ) → ℕ → (old new : ReadMarks) → Type 0
 HasRead g w n old new =
     (p : Path) (c : State ℕ) → at_number w n ≡ Some (p, Plain (at_work c)) → HasMarked old new (marks_of (leg_reads g c))
 
 -- of one that stands at its join, has ended or is none of the world nothing is noted
-abbrev pub HasReadOf : CodeRun → Option Slot → Entries (Local ℕ) → ℕ → (old new : Noted) → Type 0
+abbrev pub HasReadOf : CodeRun → Option WorldSlot → Entries (Local ℕ) → ℕ → (old new : ReadMarks) → Type 0
 HasReadOf g (Some (slot.Running r)) w n old new = HasRead g w n old new
 HasReadOf g _ w n old new = new ≡ old
 
-abbrev pub HasReadIn : CodeRun → rust.World → World (Local ℕ) → ℕ → (old new : Noted) → Type 0
+abbrev pub HasReadIn : CodeRun → rust.World → World (Local ℕ) → ℕ → (old new : ReadMarks) → Type 0
 HasReadIn g (world.Live t) (Listing w) n old new = HasReadOf g (at_number t.slots.items n) w n old new
 HasReadIn g _ _ n old new = new ≡ old

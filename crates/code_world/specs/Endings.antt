@@ -17,8 +17,8 @@ use Rattle.code_machine.specs.Machines.{numbered}
 use Rattle.code_machine.specs.Proper.{IsOver}
 use Rattle.rev_vm.specs.Meaning.{IsEnd}
 use Rattle.code_world.specs.declared.ending.MainEnd.{MainEnd}
-use Rattle.code_world.specs.declared.slot.Slot.{Slot}
-use Rattle.code_world.specs.declared.slot.Slot.TheVariants as slot
+use Rattle.code_world.specs.declared.slot.WorldSlot.{WorldSlot}
+use Rattle.code_world.specs.declared.slot.WorldSlot.TheVariants as slot
 use Rattle.code_world.specs.declared.table.Birth.{Birth}
 use Rattle.code_world.specs.Tables.{AreNamed}
 
@@ -51,7 +51,7 @@ IsEndAt g (Listing w) n None =
     → (local_of e).phase ≡ running
 
 -- the end value in a place of a table, where there is one
-abbrev pub left_in : Option Slot → Option EndValue
+abbrev pub left_in : Option WorldSlot → Option EndValue
 left_in (Some (slot.Ended v)) = Some v
 left_in (Some (slot.Joined v)) = Some v
 left_in _ = None

@@ -4,12 +4,12 @@
 use Rattle.std.specs.Prelude.{ℕ, List, [], Option, Some, None}
 use Rattle.revision_machine.specs.Numbered.{at_number}
 use Rattle.rev_vm.specs.Values.{runner_text}
-use Rattle.code_world.specs.declared.slot.Slot.{Slot}
-use Rattle.code_world.specs.declared.slot.Slot.TheVariants as slot
+use Rattle.code_world.specs.declared.slot.WorldSlot.{WorldSlot}
+use Rattle.code_world.specs.declared.slot.WorldSlot.TheVariants as slot
 use Rattle.code_world.specs.declared.world.World as rust
 use Rattle.code_world.specs.declared.world.World.TheVariants as world
 
-abbrev pub slot_text : Option Slot → List ℕ
+abbrev pub slot_text : Option WorldSlot → List ℕ
 slot_text None = []
 slot_text (Some (slot.Running r)) = runner_text r
 slot_text (Some (slot.Standing a)) = a.revision.value.run.text.items

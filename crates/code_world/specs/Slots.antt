@@ -19,8 +19,8 @@ use Rattle.rev_vm.specs.declared.join.AtJoin.{AtJoin}
 use Rattle.rev_vm.specs.declared.runner.Runner.{Runner}
 use Rattle.rev_vm.specs.Meaning.{IsAtFork, IsAtJoin, IsEnd}
 use Rattle.rev_vm.specs.Values.{StandsFor}
-use Rattle.code_world.specs.declared.slot.Slot.{Slot}
-use Rattle.code_world.specs.declared.slot.Slot.TheVariants as slot
+use Rattle.code_world.specs.declared.slot.WorldSlot.{WorldSlot}
+use Rattle.code_world.specs.declared.slot.WorldSlot.TheVariants as slot
 
 -- revisions over snapshots with all words of their own
 abbrev pub WholeRunner : Type 0
@@ -51,7 +51,7 @@ StandsAtJoin g a c =
     a.revision.value.memory.first.roots a.is_try a.on c
 
 -- one that stands at its join is behind the instructions of its leg, which begins in the local state
-abbrev pub IsSlot : CodeRun → Slot → Local ℕ → Type 0
+abbrev pub IsSlot : CodeRun → WorldSlot → Local ℕ → Type 0
 IsSlot g (slot.Running r) l = (c : State ℕ) × (l ≡ at_work c) × Runs g r c
 IsSlot g (slot.Standing a) l =
     (c : State ℕ) × (l ≡ at_work c) × (c' : State ℕ) × (leg g c ≡ joins c' a.is_try a.on)
@@ -61,13 +61,13 @@ IsSlot g (slot.Joined v) l = ⊥
 IsSlot g slot.Taken l = ⊥
 
 -- of a revision that was joined it has what it left
-abbrev pub IsMarked : CodeRun → Slot → Local ℕ → Type 0
+abbrev pub IsMarked : CodeRun → WorldSlot → Local ℕ → Type 0
 IsMarked g (slot.Joined v) l = IsEnd g (end_of l) v
 IsMarked g (slot.Running r) l = ⊥
 IsMarked g (slot.Standing a) l = ⊥
 IsMarked g (slot.Ended v) l = ⊥
 IsMarked g slot.Taken l = ⊥
 
-abbrev pub IsEntry : CodeRun → Slot → Entry (Local ℕ) → Type 0
+abbrev pub IsEntry : CodeRun → WorldSlot → Entry (Local ℕ) → Type 0
 IsEntry g s (Plain l) = IsSlot g s l
 IsEntry g s (Joined l) = IsMarked g s l

@@ -6,7 +6,7 @@ use Rattle.rev_code.specs.Events as events
 use Rattle.rev_code.specs.Variables.{start_locations}
 use Rattle.code_machine.specs.Local.{CodeRun}
 use Rattle.code_machine.specs.Machines.{IsMain}
-use Rattle.code_world.specs.declared.slot.Slot.TheVariants as slot
+use Rattle.code_world.specs.declared.slot.WorldSlot.TheVariants as slot
 use Rattle.code_world.specs.declared.table.Table.{Table}
 use Rattle.code_world.specs.Slots.{WholeRunner, Runs}
 

@@ -11,14 +11,14 @@ use Rattle.rev_num.specs.Path.{Path, child}
 use Rattle.revision_machine.specs.Laws.{local_of}
 use Rattle.revision_machine.specs.Numbered.{Entries, World, Both, Listing, at_number, paths_of}
 use Rattle.code_machine.specs.Local.{CodeRun, Local}
-use Rattle.code_world.specs.declared.slot.Slot.{Slot}
+use Rattle.code_world.specs.declared.slot.WorldSlot.{WorldSlot}
 use Rattle.code_world.specs.declared.table.Birth.{Birth}
 use Rattle.code_world.specs.declared.table.Table.{Table}
 use Rattle.code_world.specs.declared.world.World as rust
 use Rattle.code_world.specs.declared.world.World.TheVariants as world
 use Rattle.code_world.specs.Slots.{IsEntry}
 
-abbrev pub AreSlots : CodeRun → List Slot → Entries (Local ℕ) → Type 0
+abbrev pub AreSlots : CodeRun → List WorldSlot → Entries (Local ℕ) → Type 0
 AreSlots g [] [] = Unit {0}
 AreSlots g (s ∷ ss) (x ∷ w) = IsEntry g s x.1 × AreSlots g ss w
 AreSlots g [] (x ∷ w) = ⊥

@@ -13,19 +13,19 @@ use Rattle.revision_machine.specs.Numbered.{at_number}
 use Rattle.version_map.specs.declared.end.EndValue.{EndValue}
 use Rattle.code_world.specs.declared.answer.LegAnswer.{LegAnswer}
 use Rattle.code_world.specs.declared.answer.LegAnswer.TheVariants as answer
-use Rattle.code_world.specs.declared.slot.Slot.{Slot}
-use Rattle.code_world.specs.declared.slot.Slot.TheVariants as slot
+use Rattle.code_world.specs.declared.slot.WorldSlot.{WorldSlot}
+use Rattle.code_world.specs.declared.slot.WorldSlot.TheVariants as slot
 use Rattle.code_world.specs.declared.table.Table.{Table}
 use Rattle.code_world.specs.declared.world.World as rust
 use Rattle.code_world.specs.declared.world.World.TheVariants as world
 
-abbrev pub StaysOrIsJoined : Slot → Option Slot → Type 0
+abbrev pub StaysOrIsJoined : WorldSlot → Option WorldSlot → Type 0
 StaysOrIsJoined s o =
     (o ≡ Some s) ⊎ ((v : EndValue) × (s ≡ slot.Ended v) × (o ≡ Some (slot.Joined v)))
 
-abbrev pub OthersStay : List Slot → ℕ → List Slot → Type 0
+abbrev pub OthersStay : List WorldSlot → ℕ → List WorldSlot → Type 0
 OthersStay ss n ss' =
-    (m : ℕ) (s : Slot) → m ≢ n → at_number ss m ≡ Some s → StaysOrIsJoined s (at_number ss' m)
+    (m : ℕ) (s : WorldSlot) → m ≢ n → at_number ss m ≡ Some s → StaysOrIsJoined s (at_number ss' m)
 
 abbrev pub IsSame : Table → Table → Type 0
 IsSame t t' = (t'.slots.items ≡ t.slots.items) × (t'.births.items ≡ t.births.items)

@@ -15,8 +15,8 @@ use Rattle.code_machine.specs.Local.{CodeRun, IsVerified, Local}
 use Rattle.code_machine_laws.specs.Reached.{IsReached}
 use Rattle.code_world.specs.declared.answer.LegAnswer.{LegAnswer}
 use Rattle.code_world.specs.declared.answer.LegAnswer.TheVariants as answer
-use Rattle.code_world.specs.declared.slot.Slot.{Slot}
-use Rattle.code_world.specs.declared.slot.Slot.TheVariants as slot
+use Rattle.code_world.specs.declared.slot.WorldSlot.{WorldSlot}
+use Rattle.code_world.specs.declared.slot.WorldSlot.TheVariants as slot
 use Rattle.code_world.specs.declared.table.Birth.{Birth}
 use Rattle.code_world.specs.declared.table.Stage.{Stage}
 use Rattle.code_world.specs.declared.table.Stage.TheVariants as stage
@@ -24,7 +24,7 @@ use Rattle.code_world.specs.declared.table.Table.{Table}
 use Rattle.code_world.specs.Slots.{WholeJoin}
 use Rattle.code_world.specs.Tables.{IsTable}
 
-abbrev pub IsStage : Option Slot → Stage → Type 0
+abbrev pub IsStage : Option WorldSlot → Stage → Type 0
 IsStage None s = s ≡ stage.NoSuch
 IsStage (Some slot.Taken) s = s ≡ stage.NoSuch
 IsStage (Some (slot.Running r)) s = s ≡ stage.Running
@@ -56,7 +56,7 @@ abbrev pub ends_with : Finish → LegAnswer
 ends_with finish.Done = answer.Ended
 ends_with (finish.Trapped t) = answer.Trapped
 
-abbrev pub behind : Slot → ℕ → LegAnswer
+abbrev pub behind : WorldSlot → ℕ → LegAnswer
 behind (slot.Running r) on = answer.Joined on
 behind (slot.Standing a) on = answer.Trapped
 behind (slot.Ended v) on = answer.Trapped

@@ -4,7 +4,7 @@ ghost use Rattle.std.specs.Prelude.{◌≡◌, ℕ, Some};
 ghost use Rattle.code_machine.specs.Local.{CodeRun, IsVerified, Local};
 ghost use Rattle.code_machine_laws.specs.Reached.{IsReached};
 ghost use Rattle.revision_machine.specs.Numbered.{Entries, Listing, at_number};
-ghost use Rattle.code_world.specs.declared.slot.Slot.TheVariants as slot;
+ghost use Rattle.code_world.specs.declared.slot.WorldSlot.TheVariants as slot;
 ghost use Rattle.code_world.specs.Adopted.{EndsSo};
 ghost use Rattle.code_world.specs.Answers.{Answers, LegAnswers};
 ghost use Rattle.code_world.specs.Tables.{IsWorld};
@@ -12,7 +12,7 @@ ghost use Rattle.code_world.specs.Touches.{Touches, TouchesIn};
 ghost use Rattle.code_world.specs.Turns.{IsGood};
 
 use crate::answer::LegAnswer;
-use crate::slot::Slot;
+use crate::slot::WorldSlot;
 use crate::table::Table;
 use crate::turn::answer_of;
 use crate::world::{World, world_of};
@@ -30,7 +30,7 @@ impl Table {
         let answer = answer_of(end.finish);
         let runner = self.take_runner(number as usize);
         runner.give_up();
-        self.put(number as usize, Slot::Ended(end));
+        self.put(number as usize, WorldSlot::Ended(end));
         answer
     }
 }

@@ -14,12 +14,12 @@ ghost use Rattle.rev_vm.specs.Meaning.{IsEnd};
 ghost use Rattle.version_map.specs.Deltas.{locations};
 ghost use Rattle.rev_vm.specs.Starts.{run_under};
 ghost use Rattle.version_map.specs.declared.end.Finish.TheVariants as finish;
-ghost use Rattle.code_world.specs.Came.{HasCome, HasMet, IsMeeting, meets};
+ghost use Rattle.code_world.specs.LegOutcomes.{HasCome, HasMet, IsMeeting, meets};
 ghost use Rattle.code_world.specs.Slots.{Runs, StandsAtFork, StandsAtJoin};
 
-use crate::slot::Slot;
+use crate::slot::WorldSlot;
 use leg_run::CodeSetting;
-use noting_run::Noted;
+use noting_run::ReadMarks;
 use rev_vm::{
     AtFork, AtJoin, Event, Runner, Settled, Spares, retire, run_leg, run_leg_noting, settle,
 };
@@ -91,7 +91,7 @@ pub fn advance_noting(
     runner: Runner<Whole>,
     child: u32,
     spares: &mut Spares,
-    noted: &mut Noted,
+    noted: &mut ReadMarks,
 ) -> Result<Came, AllocError>
     requires stands { (c : State ℕ) × Runs (run_under setting.now) runner c }
     requires locations { locations noted.old.locations ≡ count setting.now.code.vars }
@@ -116,15 +116,15 @@ pub fn advance_noting(
 }
 
 /// The joiner of a revision that has trapped.
-fn meet_trapped(at: AtJoin<Whole>, trap: CodeTrap, spares: &mut Spares) -> Slot
+fn meet_trapped(at: AtJoin<Whole>, trap: CodeTrap, spares: &mut Spares) -> WorldSlot
     ensures { (g : CodeRun) (c : State ℕ) (j : End ℕ) (v : EndValue) → StandsAtJoin g at c
         → IsEnd g j v → v.finish ≡ finish.Trapped trap
         → HasMet g result (meets g at c j) }
 {
     if at.is_try() {
-        Slot::Running(at.dropped())
+        WorldSlot::Running(at.dropped())
     } else {
-        Slot::Ended(retire(at.trapped(trap), spares).0)
+        WorldSlot::Ended(retire(at.trapped(trap), spares).0)
     }
 }
 
@@ -135,7 +135,7 @@ fn meet_done<M: MergeBy>(
     end: EndValue,
     merges: &mut M,
     spares: &mut Spares,
-) -> Result<Slot, AllocError>
+) -> Result<WorldSlot, AllocError>
     requires meeting { (g : CodeRun) × (c : State ℕ) × (j : End ℕ) × IsMeeting g at end c j
         × (M.size merges.old ≡ count g.code.vars) }
     requires done { end.finish ≡ finish.Done }
@@ -146,8 +146,8 @@ fn meet_done<M: MergeBy>(
     ensures same { M.merges merges.new ≡ M.merges merges.old }
 {
     match settle(alloc, at.claim(end), merges) {
-        Ok(Settled::Run(runner)) => Ok(Slot::Running(runner)),
-        Ok(Settled::Trap(stopped)) => Ok(Slot::Ended(retire(stopped, spares).0)),
+        Ok(Settled::Run(runner)) => Ok(WorldSlot::Running(runner)),
+        Ok(Settled::Trap(stopped)) => Ok(WorldSlot::Ended(retire(stopped, spares).0)),
         Err(broken) => {
             broken.give_up();
             Err(AllocError)
@@ -162,7 +162,7 @@ pub fn meet<M: MergeBy>(
     end: EndValue,
     merges: &mut M,
     spares: &mut Spares,
-) -> Result<Slot, AllocError>
+) -> Result<WorldSlot, AllocError>
     requires { (g : CodeRun) × (c : State ℕ) × (j : End ℕ) × IsMeeting g at end c j
         × (M.size merges.old ≡ count g.code.vars) }
     ensures met { (g : CodeRun) (c : State ℕ) (j : End ℕ) → IsMeeting g at end c j

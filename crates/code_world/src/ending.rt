@@ -3,11 +3,11 @@
 ghost use Rattle.std.specs.Prelude.{◌≡◌, ℕ, Some};
 ghost use Rattle.code_machine.specs.Local.{CodeRun, Local};
 ghost use Rattle.revision_machine.specs.Numbered.{World as DefinedWorld, at_number};
-ghost use Rattle.code_world.specs.declared.slot.Slot.TheVariants as slot;
+ghost use Rattle.code_world.specs.declared.slot.WorldSlot.TheVariants as slot;
 ghost use Rattle.code_world.specs.Endings.{HasLeft, MainIsOver};
 ghost use Rattle.code_world.specs.Tables.{IsWorld};
 
-use crate::slot::Slot;
+use crate::slot::WorldSlot;
 use crate::table::{Birth, Table};
 use crate::world::World;
 use version_map::EndValue;
@@ -20,7 +20,7 @@ pub struct MainEnd {
 }
 
 /// Lets all of these revisions go.
-fn give_up_all(slots: Vec<Slot>) {
+fn give_up_all(slots: Vec<WorldSlot>) {
     let mut rest = slots.into_iter();
     while let Some(slot) = rest.next() {
         slot.give_up();

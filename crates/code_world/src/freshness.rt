@@ -2,7 +2,7 @@
 
 ghost use Rattle.std.specs.Prelude.{◌≡◌, ℕ, IfOk, length, option_copied, slice_index};
 ghost use Rattle.rev_code.specs.State.{State};
-ghost use Rattle.plain_words.specs.Agreement.{AreWords};
+ghost use Rattle.block_run.specs.Agreement.{AreWords};
 ghost use Rattle.code_machine.specs.Local.{CodeRun, Local};
 ghost use Rattle.code_memos.specs.Leaf.{Fresh as DefinedFresh, IsFresh};
 ghost use Rattle.code_machine_laws.specs.Reached.{IsReached};
@@ -15,7 +15,7 @@ ghost use Rattle.code_world.specs.Slots.{Runs};
 ghost use Rattle.code_world.specs.Tables.{IsWorld};
 ghost use Rattle.code_world.specs.Turns.{IsGood};
 
-use crate::slot::Slot;
+use crate::slot::WorldSlot;
 use crate::table::Table;
 use crate::world::World;
 use leg_run::CodeSetting;
@@ -99,7 +99,7 @@ impl Table {
         ensures { option_copied result ≡ running_in (at_number self.now.slots.items number) }
     {
         match self.slots.get(number) {
-            Some(Slot::Running(runner)) => Some(runner),
+            Some(WorldSlot::Running(runner)) => Some(runner),
             _ => None,
         }
     }

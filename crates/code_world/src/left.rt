@@ -6,7 +6,7 @@ ghost use Rattle.revision_machine.specs.Numbered.{World as DefinedWorld, at_numb
 ghost use Rattle.code_world.specs.Endings.{IsEndAt, left_in};
 ghost use Rattle.code_world.specs.Tables.{IsWorld};
 
-use crate::slot::Slot;
+use crate::slot::WorldSlot;
 use crate::table::Table;
 use crate::world::World;
 use version_map::EndValue;
@@ -17,8 +17,8 @@ impl Table {
         ensures { option_copied result ≡ left_in (at_number self.now.slots.items number) }
     {
         match self.slots.get(number) {
-            Some(Slot::Ended(end)) => Some(end),
-            Some(Slot::Joined(end)) => Some(end),
+            Some(WorldSlot::Ended(end)) => Some(end),
+            Some(WorldSlot::Joined(end)) => Some(end),
             _ => None,
         }
     }

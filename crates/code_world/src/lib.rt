@@ -26,6 +26,6 @@ pub use freshness::{FreshStart, fresh};
 pub use leg_run::CodeSetting;
 pub use noted::NotedLeg;
 pub use reading::leg_noting;
-pub use slot::Slot;
+pub use slot::WorldSlot;
 pub use table::{Birth, Table};
 pub use world::{World, leg, leg_meeting};

@@ -18,7 +18,7 @@ use crate::answer::LegAnswer;
 use crate::noted::{NotedLeg, noted_end};
 use crate::world::{World, world_of};
 use leg_run::CodeSetting;
-use noting_run::Noted;
+use noting_run::ReadMarks;
 use std::alloc::{AllocError, Global};
 use version_map::MergeBy;
 
@@ -30,7 +30,7 @@ pub fn leg_noting<M: MergeBy>(
     merges: &mut M,
     world: World,
     revision: u32,
-    noted: &mut Noted,
+    noted: &mut ReadMarks,
 ) -> Result<(World, NotedLeg), AllocError>
     requires reached { (w : DefinedWorld (Local ℕ)) × IsReached (run_under setting.now) w
         × IsWorld (run_under setting.now) world w }

@@ -6,7 +6,7 @@ ghost use Rattle.revision_machine.specs.Numbered.{Entries, World as DefinedWorld
 ghost use Rattle.code_world.specs.Said.{main_text, slot_text};
 ghost use Rattle.code_world.specs.Tables.{AreSlots, IsWorld};
 
-use crate::slot::Slot;
+use crate::slot::WorldSlot;
 use crate::table::Table;
 use crate::world::World;
 
@@ -18,11 +18,11 @@ impl Table {
     {
         match self.slots.get(0) {
             None => &[],
-            Some(Slot::Taken) => &[],
-            Some(Slot::Running(runner)) => runner.text(),
-            Some(Slot::Standing(at)) => at.text(),
-            Some(Slot::Ended(end)) => end.text.as_slice(),
-            Some(Slot::Joined(end)) => end.text.as_slice(),
+            Some(WorldSlot::Taken) => &[],
+            Some(WorldSlot::Running(runner)) => runner.text(),
+            Some(WorldSlot::Standing(at)) => at.text(),
+            Some(WorldSlot::Ended(end)) => end.text.as_slice(),
+            Some(WorldSlot::Joined(end)) => end.text.as_slice(),
         }
     }
 }

@@ -5,7 +5,7 @@ use version_map::{EndValue, Whole};
 
 /// What a world has of a revision. Running revisions and joiners may not be let go by themselves:
 /// `give_up` ends them.
-pub enum Slot {
+pub enum WorldSlot {
     /// Between two events.
     Running(Runner<Whole>),
     /// At a join, behind the instructions of its leg.
@@ -18,13 +18,13 @@ pub enum Slot {
     Taken,
 }
 
-impl Slot {
+impl WorldSlot {
     /// Lets the revision go.
     pub fn give_up(self) {
         match self {
-            Slot::Running(runner) => runner.give_up(),
-            Slot::Standing(at) => at.give_up(),
-            Slot::Ended(_) | Slot::Joined(_) | Slot::Taken => {},
+            WorldSlot::Running(runner) => runner.give_up(),
+            WorldSlot::Standing(at) => at.give_up(),
+            WorldSlot::Ended(_) | WorldSlot::Joined(_) | WorldSlot::Taken => {},
         }
     }
 }

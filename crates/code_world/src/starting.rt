@@ -9,7 +9,7 @@ ghost use Rattle.code_world.specs.Said.{main_text};
 ghost use Rattle.code_world.specs.Starts.{IsAlone, IsFirst};
 ghost use Rattle.code_world.specs.Tables.{IsWorld};
 
-use crate::slot::Slot;
+use crate::slot::WorldSlot;
 use crate::table::{Birth, Table};
 use crate::world::World;
 use leg_run::CodeSetting;
@@ -59,7 +59,7 @@ impl Table {
         requires { (self.old.slots.items ≡ []) × (self.old.births.items ≡ []) }
         ensures { OnOk result (IsAlone runner self.new) }
     {
-        match self.slots.push(Slot::Running(runner)) {
+        match self.slots.push(WorldSlot::Running(runner)) {
             Ok(()) => {},
             Err(failed) => {
                 failed.value.give_up();

@@ -2,11 +2,11 @@
 
 ghost use Rattle.std.specs.Prelude.{◌≡◌, ◌<◌, ◌+◌, ◌∷◌, ◌++◌, ◌^◌, [], IfOk, OnOk, Some, length};
 ghost use Rattle.revision_machine.specs.Numbered.{at_number, put_number};
-ghost use Rattle.code_world.specs.declared.slot.Slot.TheVariants as slot;
+ghost use Rattle.code_world.specs.declared.slot.WorldSlot.TheVariants as slot;
 ghost use Rattle.code_world.specs.Turns.{IsStage, born};
 
 use crate::lists::swap;
-use crate::slot::Slot;
+use crate::slot::WorldSlot;
 use rev_vm::{AtJoin, Runner, Spares};
 use std::alloc::{AllocError, Global};
 use version_map::{EndValue, Whole};
@@ -23,7 +23,7 @@ pub struct Birth {
 /// The revisions of a world, in the order of their forks, with what those that have ended left of
 /// their memory to those that begin.
 pub struct Table {
-    pub(crate) slots: Vec<Slot>,
+    pub(crate) slots: Vec<WorldSlot>,
     pub(crate) births: Vec<Birth>,
     pub(crate) spares: Spares,
 }
@@ -45,11 +45,11 @@ impl Table {
     {
         match self.slots.get(number) {
             None => Stage::NoSuch,
-            Some(Slot::Taken) => Stage::NoSuch,
-            Some(Slot::Running(_)) => Stage::Running,
-            Some(Slot::Standing(at)) => Stage::Standing { on: at.on() },
-            Some(Slot::Ended(_)) => Stage::Ended,
-            Some(Slot::Joined(_)) => Stage::Joined,
+            Some(WorldSlot::Taken) => Stage::NoSuch,
+            Some(WorldSlot::Running(_)) => Stage::Running,
+            Some(WorldSlot::Standing(at)) => Stage::Standing { on: at.on() },
+            Some(WorldSlot::Ended(_)) => Stage::Ended,
+            Some(WorldSlot::Joined(_)) => Stage::Joined,
         }
     }
 
@@ -74,8 +74,8 @@ impl Table {
         ensures now { self.new.slots.items ≡ put_number self.old.slots.items number slot.Taken }
         ensures births { self.new.births ≡ self.old.births }
     {
-        match swap(&mut self.slots, number, Slot::Taken) {
-            Slot::Running(runner) => runner,
+        match swap(&mut self.slots, number, WorldSlot::Taken) {
+            WorldSlot::Running(runner) => runner,
             other => {
                 other.give_up();
                 unreachable!()
@@ -90,8 +90,8 @@ impl Table {
         ensures now { self.new.slots.items ≡ put_number self.old.slots.items number slot.Taken }
         ensures births { self.new.births ≡ self.old.births }
     {
-        match swap(&mut self.slots, number, Slot::Taken) {
-            Slot::Standing(at) => at,
+        match swap(&mut self.slots, number, WorldSlot::Taken) {
+            WorldSlot::Standing(at) => at,
             other => {
                 other.give_up();
                 unreachable!()
@@ -106,8 +106,8 @@ impl Table {
         ensures now { self.new.slots.items ≡ put_number self.old.slots.items number slot.Taken }
         ensures births { self.new.births ≡ self.old.births }
     {
-        match swap(&mut self.slots, number, Slot::Taken) {
-            Slot::Ended(end) => end,
+        match swap(&mut self.slots, number, WorldSlot::Taken) {
+            WorldSlot::Ended(end) => end,
             other => {
                 other.give_up();
                 unreachable!()
@@ -122,7 +122,7 @@ impl Table {
             (λ v. at_number self.now.slots.items number ≡ Some (slot.Ended v)) }
     {
         match self.slots.get(number) {
-            Some(Slot::Ended(end)) => end.copied(alloc),
+            Some(WorldSlot::Ended(end)) => end.copied(alloc),
             _ => unreachable!(),
         }
     }
@@ -137,8 +137,8 @@ impl Table {
         ensures births { self.new.births ≡ self.old.births }
     {
         let copy = self.copied_end(alloc, number)?;
-        match swap(&mut self.slots, number, Slot::Joined(copy)) {
-            Slot::Ended(end) => Ok(end),
+        match swap(&mut self.slots, number, WorldSlot::Joined(copy)) {
+            WorldSlot::Ended(end) => Ok(end),
             other => {
                 other.give_up();
                 unreachable!()
@@ -147,7 +147,7 @@ impl Table {
     }
 
     /// What the table has of a revision from now on.
-    pub(crate) fn put(&mut self, number: usize, new: Slot)
+    pub(crate) fn put(&mut self, number: usize, new: WorldSlot)
         requires { number < length self.old.slots.items }
         ensures now { self.new.slots.items ≡ put_number self.old.slots.items number new }
         ensures births { self.new.births ≡ self.old.births }
@@ -173,7 +173,7 @@ impl Table {
             × (at_number self.old.births.items number ≡ Some b)
             × (self.new.births.items ≡ born self.old.births.items number b)) }
     {
-        self.put(number as usize, Slot::Running(forker));
+        self.put(number as usize, WorldSlot::Running(forker));
         let birth = self.births[number as usize];
         self.births[number as usize] = Birth {
             forks: birth.forks + 1,
@@ -184,7 +184,7 @@ impl Table {
             place: birth.forks,
             forks: 0,
         };
-        match self.slots.push(Slot::Running(kid)) {
+        match self.slots.push(WorldSlot::Running(kid)) {
             Ok(()) => {},
             Err(failed) => {
                 failed.value.give_up();

@@ -7,7 +7,7 @@ ghost use Rattle.block_run.specs.Area.{count};
 ghost use Rattle.code_machine.specs.Local.{CodeRun, Local};
 ghost use Rattle.revision_machine.specs.Numbered.{Entries, at_number};
 ghost use Rattle.rev_vm.specs.Starts.{run_under};
-ghost use Rattle.code_world.specs.declared.slot.Slot.TheVariants as slot;
+ghost use Rattle.code_world.specs.declared.slot.WorldSlot.TheVariants as slot;
 ghost use Rattle.code_world.specs.Slots.{StandsAtJoin, WholeJoin};
 ghost use Rattle.version_map.specs.Deltas.{locations};
 ghost use Rattle.code_world.specs.Answers.{Answers};
@@ -19,10 +19,10 @@ ghost use Rattle.code_world.specs.Turns.{IsGood, StandsOn, Settles, behind, ends
 use crate::advance::{Came, advance, advance_noting, meet};
 use crate::answer::LegAnswer;
 use crate::noted::{NotedLeg, noted_end, noted_fork, noted_join};
-use crate::slot::Slot;
+use crate::slot::WorldSlot;
 use crate::table::{Stage, Table};
 use leg_run::CodeSetting;
-use noting_run::Noted;
+use noting_run::ReadMarks;
 use std::alloc::{AllocError, Global};
 use version_map::{Finish, MergeBy};
 
@@ -37,11 +37,11 @@ pub(crate) fn answer_of(finish: Finish) -> LegAnswer
 }
 
 /// The answer of a joiner behind its join of this revision.
-fn answer_behind(slot: &Slot, on: u32) -> LegAnswer
+fn answer_behind(slot: &WorldSlot, on: u32) -> LegAnswer
     ensures { result ≡ behind slot.now on }
 {
     match slot {
-        Slot::Running(_) => LegAnswer::Joined { on },
+        WorldSlot::Running(_) => LegAnswer::Joined { on },
         _ => LegAnswer::Trapped,
     }
 }
@@ -56,7 +56,7 @@ impl Table {
             ≡ Some (slot.Standing a) → StandsAtJoin g a c → result ≡ c.line }
     {
         match self.slots.get(number) {
-            Some(Slot::Standing(at)) => at.line(),
+            Some(WorldSlot::Standing(at)) => at.line(),
             _ => unreachable!(),
         }
     }
@@ -144,13 +144,13 @@ impl Table {
             Came::Standing(at) => {
                 let on = at.on();
                 let line = at.line();
-                self.put(number as usize, Slot::Standing(at));
+                self.put(number as usize, WorldSlot::Standing(at));
                 let answer = self.join(alloc, merges, number, on)?;
                 Ok(noted_join(answer, on, line))
             },
             Came::Ended(end) => {
                 let answer = answer_of(end.finish);
-                self.put(number as usize, Slot::Ended(end));
+                self.put(number as usize, WorldSlot::Ended(end));
                 Ok(noted_end(answer))
             },
         }
@@ -190,7 +190,7 @@ impl Table {
         setting: &CodeSetting,
         merges: &mut M,
         number: u32,
-        noted: &mut Noted,
+        noted: &mut ReadMarks,
     ) -> Result<NotedLeg, AllocError>
         requires runs { (w : Entries (Local ℕ)) × IsGood (run_under setting.now) self.old w }
         requires size { M.size merges.old ≡ count setting.now.code.vars }
@@ -255,7 +255,7 @@ impl Table {
         setting: &CodeSetting,
         merges: &mut M,
         number: u32,
-        noted: &mut Noted,
+        noted: &mut ReadMarks,
     ) -> Result<NotedLeg, AllocError>
         requires good { (w : Entries (Local ℕ)) × IsGood (run_under setting.now) self.old w }
         requires size { M.size merges.old ≡ count setting.now.code.vars }

@@ -10,7 +10,7 @@ use Rattle.revision_calculus.specs.State.{Frame, Phase, running, joining, done, 
 use Rattle.revision_calculus.specs.Step.{next, by_phase}
 use Rattle.revision_calculus.specs.Join.{join}
 use Rattle.revision_calculus.specs.Calculus.{main, calculus}
-use Rattle.revision_calculus.specs.Held as held
+use Rattle.revision_calculus.specs.HandlesHeld as held
 use Rattle.revision_calculus.proofs.Moves.{Moved}
 use Rattle.revision_calculus.proofs.Events.{ForkOk, WantOk, ended_phase}
 use Rattle.revision_calculus.proofs.Joining.{JoinOk}

@@ -8,7 +8,7 @@ use Rattle.revision_calculus.specs.Program.{Setting}
 use Rattle.revision_calculus.specs.State.{Frame, Phase, running, joining, done, trapped, Local}
 use Rattle.revision_calculus.specs.Step.{next}
 use Rattle.revision_calculus.specs.Join.{join}
-use Rattle.revision_calculus.specs.Held.{beyond_first, Holds}
+use Rattle.revision_calculus.specs.HandlesHeld.{beyond_first, Holds}
 pub use Rattle.rev_num.specs.Limits.{most_fuel}
 
 -- One that goes on has two, for its end or its join and for being joined, and one for each frame beyond the first.

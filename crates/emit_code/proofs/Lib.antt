@@ -1,3 +1,4 @@
+-- Proofs of emit_code: writes the code of expressions, and of statements of every form.
 pub mod Forms
 pub mod Tasks
 pub mod Trees

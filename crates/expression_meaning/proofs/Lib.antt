@@ -1,3 +1,5 @@
+-- Proofs of expression_meaning: the code of expressions, funs and merges has their values; when a state of code
+-- stands where one of the calculus does.
 pub mod Applying
 pub mod Typed
 pub mod Typing

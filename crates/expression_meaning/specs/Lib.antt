@@ -1,3 +1,5 @@
+-- Definitions of expression_meaning: the code of expressions, funs and merges has their values; when a state of
+-- code stands where one of the calculus does.
 pub mod Applying
 pub mod Agrees
 pub mod Blocks

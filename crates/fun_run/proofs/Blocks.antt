@@ -19,12 +19,12 @@ use Rattle.code_rules.specs.Pass.{is_value_class}
 use Rattle.code_rules.specs.Tables.{is_name, has_cells, is_start, merges_well, is_merge_class, is_int_merge, is_int_result, are_three_ints, no_merge}
 use Rattle.code_rules.specs.Verdict.{first_fault}
 use Rattle.code_soundness.specs.Typed.{location_kinds}
-use Rattle.code_soundness.specs.Whole.{IsAccepted, notes_of}
+use Rattle.code_soundness.specs.AcceptedCode.{IsAccepted, notes_of}
 use Rattle.code_soundness.proofs.Accepting.{no_fault_accepted, no_fault_costs}
 use Rattle.code_soundness.proofs.Evaluating.{var_well, merge_kind, three_ints, merge_evaluates}
 use Rattle.code_soundness.proofs.Lists.{and_parts, none_some, some_eq}
-use Rattle.plain_words.specs.Agreement.{IsWord, AreWords}
-use Rattle.plain_words.proofs.Numbers as numbers
+use Rattle.block_run.specs.Agreement.{IsWord, AreWords}
+use Rattle.block_run.proofs.Numbers as numbers
 use Rattle.block_run.specs.Area.{count}
 use Rattle.block_run.specs.Standing.{IsOfValue}
 use Rattle.fun_run.specs.Values.{HasRoom, IsArgs, IsValue}

@@ -18,7 +18,7 @@ use Rattle.rev_code.specs.Funs.{fun_start, setting_of_fun, values, answer}
 use Rattle.code_rules.specs.Pass.{has_class, is_value_class, is_pure}
 use Rattle.code_soundness.proofs.Basics.{and_parts, some_eq}
 use Rattle.code_soundness.specs.Typed.{kinds_of}
-use Rattle.code_soundness.specs.Whole.{IsAccepted, notes_of}
+use Rattle.code_soundness.specs.AcceptedCode.{IsAccepted, notes_of}
 use Rattle.code_soundness.specs.Funs.{IsFunStep, IsArithmetic, HasValue}
 use Rattle.code_soundness.proofs.Lists.{fits_kinds, kinds_length, reverse_length}
 use Rattle.code_soundness.proofs.Cases.{fun_evaluates}

@@ -3,7 +3,7 @@ use Rattle.std.proofs.Common.{◌≡◌, ℕ, [], ◌∷◌, sym, subst}
 use Rattle.std.specs.Prelude.{Result, Ok, Err}
 use Rattle.rev_num.specs.declared.value.NumFault.{NumFault}
 use Rattle.rev_code.specs.Words.{Word}
-use Rattle.plain_words.specs.Agreement.{IsWord}
+use Rattle.block_run.specs.Agreement.{IsWord}
 use Rattle.version_map.specs.Composing.{Composition, before_later, and_later, composed}
 use Rattle.code_machine.specs.Joining.{merges}
 use Rattle.fun_run.specs.Merging.{IsMerged, IsComposedAs, ComposesAlike}

@@ -17,7 +17,7 @@ use Rattle.code_rules.specs.Shapes.{shape_after}
 use Rattle.code_rules.specs.Verdict.{first_fault}
 use Rattle.code_soundness.specs.Certificate.{note_at}
 use Rattle.code_soundness.proofs.Basics.{append_length, before_next, some_eq, some_within, within_some}
-use Rattle.code_soundness.specs.Whole.{AreCosts, IsAccepted, all_passed, notes_in, notes_of}
+use Rattle.code_soundness.specs.AcceptedCode.{AreCosts, IsAccepted, all_passed, notes_in, notes_of}
 use Rattle.code_soundness.proofs.Accepting.{no_fault_accepted, no_fault_costs}
 use Rattle.code_soundness.proofs.Evaluating.{get_take}
 use Rattle.code_soundness.proofs.Lists.{all_at, get_append_left, get_append_right}

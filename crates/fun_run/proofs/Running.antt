@@ -22,10 +22,10 @@ use Rattle.code_rules.specs.Pass.{is_value_class}
 use Rattle.code_rules.specs.declared.Cost.{Cost}
 use Rattle.code_soundness.proofs.Basics.{some_eq, within_some}
 use Rattle.code_soundness.specs.Typed.{kinds_of}
-use Rattle.code_soundness.specs.Whole.{IsAccepted, notes_of}
+use Rattle.code_soundness.specs.AcceptedCode.{IsAccepted, notes_of}
 use Rattle.code_soundness.specs.Funs.{HasValue, IsArithmetic}
 use Rattle.code_soundness.proofs.Lists.{kinds_length}
-use Rattle.plain_words.specs.Agreement.{IsWord, AreWords}
+use Rattle.block_run.specs.Agreement.{IsWord, AreWords}
 use Rattle.block_run.specs.declared.registers.Registers.{Registers}
 use Rattle.block_run.specs.declared.registers.Stop.{Stop}
 use Rattle.block_run.specs.declared.registers.Stop.TheVariants as stop

@@ -26,8 +26,8 @@ use Rattle.rev_code.specs.Funs.{answer, fun_start, setting_of_fun, value_of, val
 use Rattle.rev_code.specs.Step as r
 use Rattle.rev_code.specs.Step.{Comes, goes, traps, forks, joins, ends, stuck, act, act_at, act_in, step, only, is_fun, is_procedure, onward, reach}
 use Rattle.code_soundness.proofs.Lists.{some_eq, none_some}
-use Rattle.plain_words.specs.Agreement.{IsWord, PushesInt}
-use Rattle.plain_words.proofs.Numbers.{Fit, sums, differences, products, quotients, remainders, negations, int_fits}
+use Rattle.block_run.specs.Agreement.{IsWord, PushesInt}
+use Rattle.block_run.proofs.Numbers.{Fit, sums, differences, products, quotients, remainders, negations, int_fits}
 use Rattle.code_machine.specs.Joining as joining
 use Rattle.code_machine.specs.Joining.{merged_by}
 use Rattle.fun_run.specs.Merging.{HasShortNumbers, IsShort}

@@ -21,10 +21,10 @@ use Rattle.rev_code.specs.declared.code.Instr.{Instr}
 use Rattle.rev_code.specs.Words.{Word, int, bool, rev, kind_of}
 use Rattle.rev_code.specs.Funs.{values}
 use Rattle.code_rules.specs.declared.Cost.{Cost}
-use Rattle.code_soundness.specs.Whole.{AreCosts}
+use Rattle.code_soundness.specs.AcceptedCode.{AreCosts}
 use Rattle.code_soundness.specs.Typed.{location_kinds}
-use Rattle.plain_words.specs.Plain.{flag}
-use Rattle.plain_words.specs.Agreement.{handle, IsWord, AreWords, PushesInt}
+use Rattle.block_run.specs.Plain.{flag}
+use Rattle.block_run.specs.Agreement.{handle, IsWord, AreWords, PushesInt}
 use Rattle.version_map.specs.Composing.{Entry, Merges, Composition, composed}
 use Rattle.block_run.specs.Standing.{IsOfValue}
 use Rattle.code_machine.specs.Local.{CodeRun, IsVerified}

@@ -13,7 +13,7 @@ use Rattle.rev_code.specs.declared.code.Instr.{Instr}
 use Rattle.rev_code.specs.declared.code.Instr.TheVariants as i
 use Rattle.code_rules.specs.declared.Cost.{Cost}
 use Rattle.code_rules.specs.Pass.{is_value_class, most_need, most_words}
-use Rattle.code_soundness.specs.Whole.{notes_of, AreCosts}
+use Rattle.code_soundness.specs.AcceptedCode.{notes_of, AreCosts}
 
 pub record IsRoom (code : Code) (n : ℕ) (b : CodeBlock) (room : ℕ) : Type 0 where
   pub deep : (at : ℕ) → at < length b.instrs → length b.locals + length (notes_of code n at).shape ≤ room

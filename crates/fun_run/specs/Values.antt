@@ -14,8 +14,8 @@ use Rattle.rev_code.specs.Words.{Word}
 use Rattle.rev_code.specs.Step.{cause_of, params}
 use Rattle.code_rules.specs.declared.Cost.{Cost}
 use Rattle.code_soundness.specs.Typed.{kinds_of}
-use Rattle.code_soundness.specs.Whole.{AreCosts}
-use Rattle.plain_words.specs.Agreement.{IsWord, AreWords}
+use Rattle.code_soundness.specs.AcceptedCode.{AreCosts}
+use Rattle.block_run.specs.Agreement.{IsWord, AreWords}
 
 pub record IsArgs (code : Code) (n : ℕ) (args : List (Word ℕ)) (ws : List ℕ) (low : ℕ) : Type 0 where
   pub body : CodeBlock

@@ -7,7 +7,7 @@ ghost use Rattle.rev_code.specs.Funs.{values};
 ghost use Rattle.rev_code.specs.Step.{cause_of, value_at};
 ghost use Rattle.rev_code.specs.Words.{Word};
 ghost use Rattle.code_soundness.specs.Funs.{IsArithmetic};
-ghost use Rattle.code_soundness.specs.Whole.{notes_of, IsAccepted};
+ghost use Rattle.code_soundness.specs.AcceptedCode.{notes_of, IsAccepted};
 ghost use Rattle.version_map.specs.Deltas.{at};
 ghost use Rattle.version_map.specs.Overlay.{under};
 ghost use Rattle.block_run.specs.Area.{count, IsTable};

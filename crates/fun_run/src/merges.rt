@@ -1,7 +1,7 @@
 //! The merges of all locations.
 
 ghost use Rattle.std.specs.Prelude.{◌≡◌, ◌≤◌, ◌<◌, IfOk, vec_len};
-ghost use Rattle.code_soundness.specs.Whole.{notes_of, IsAccepted};
+ghost use Rattle.code_soundness.specs.AcceptedCode.{notes_of, IsAccepted};
 ghost use Rattle.code_verifier.specs.Verdicts.{KeepsRules};
 ghost use Rattle.code_machine.specs.Joining.{merges_of};
 ghost use Rattle.block_run.specs.Area.{count, table_from};

@@ -2,7 +2,7 @@
 
 ghost use Rattle.std.specs.Prelude.{◌≡◌, ◌<◌, ℕ, Some, length, slice_get};
 ghost use Rattle.rev_code.specs.declared.code.Instr.{Instr};
-ghost use Rattle.plain_words.specs.Agreement.{PushesInt};
+ghost use Rattle.block_run.specs.Agreement.{PushesInt};
 ghost use Rattle.fun_run.specs.Merging.{HasShortNumbers};
 
 use crate::rooms::block_in;

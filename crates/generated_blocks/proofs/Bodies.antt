@@ -31,7 +31,7 @@ use Rattle.generated_certificates.specs.Expressions.{word_kind, expression_notes
 use Rattle.generated_certificates.specs.Statements.{statements_notes}
 use Rattle.generated_certificates.specs.Means.{FunMeans, NamesMean}
 use Rattle.generated_certificates.specs.Bodies.{BodyMeans}
-use Rattle.generated_certificates.specs.Kept.{IsWithin, IsKept, AllKept}
+use Rattle.generated_certificates.specs.RulesKept.{IsWithin, IsKept, AllKept}
 use Rattle.generated_certificates.proofs.Parts.{nothing, note_here, fits_eq, parts_kept, one_kept}
 use Rattle.generated_certificates.proofs.Lengths.{expression_notes_length, first_note}
 use Rattle.generated_certificates.proofs.StatementLengths.{statements_notes_length}

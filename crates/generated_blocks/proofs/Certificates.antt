@@ -17,7 +17,7 @@ use Rattle.code_ways.specs.Certified.{BeginsAnew, IsCheap, cost_at_depth}
 use Rattle.code_ways.proofs.Certified.{shapes, certified_accepted, need_take, count_take}
 use Rattle.code_ways.proofs.OfCode.{block_fine}
 use Rattle.generated_certificates.specs.Items.{noted}
-use Rattle.generated_certificates.specs.Kept.{IsKept, AllKept}
+use Rattle.generated_certificates.specs.RulesKept.{IsKept, AllKept}
 use Rattle.generated_certificates.proofs.Parts.{each_kept}
 
 -- ---- ends of lists

@@ -46,7 +46,7 @@ use Rattle.rev_kinds.proofs.Uses.{OfUses, uses_fine}
 use Rattle.expression_meaning.proofs.Uses.{Use_can, applies}
 use Rattle.generated_certificates.specs.Expressions.{expression_depth}
 use Rattle.generated_certificates.specs.Means.{FunMeans, NamesMean}
-use Rattle.generated_certificates.specs.Kept.{IsWithin}
+use Rattle.generated_certificates.specs.RulesKept.{IsWithin}
 use Rattle.generated_blocks.specs.Notes.{value_notes}
 use Rattle.generated_blocks.proofs.Certificates.{returns_at_end, accepts, at_most}
 use Rattle.generated_blocks.proofs.Weights.{IsPaid, count_both, need_both, depth_within, costs_within}

@@ -1,3 +1,4 @@
+-- Proofs of generated_blocks: the verifier accepts the code of every program that the checker accepts.
 pub mod Certificates
 pub mod Weights
 pub mod Params

@@ -34,7 +34,7 @@ use Rattle.code_generation.proofs.Inside.{jumps_stay}
 use Rattle.code_generation.proofs.Lengths.{statements_prints_length}
 use Rattle.generated_certificates.specs.Means.{NamesMean}
 use Rattle.generated_certificates.specs.Bodies.{ProcMeans, BodyMeans}
-use Rattle.generated_certificates.specs.Kept.{IsWithin}
+use Rattle.generated_certificates.specs.RulesKept.{IsWithin}
 use Rattle.generated_blocks.specs.Notes.{body_notes}
 use Rattle.generated_blocks.proofs.Certificates.{returns_at_end, accepts}
 use Rattle.generated_blocks.proofs.Params.{params_mean}

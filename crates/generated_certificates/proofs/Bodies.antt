@@ -32,7 +32,7 @@ use Rattle.generated_certificates.specs.Expressions.{word_kind, behind_args, exp
 use Rattle.generated_certificates.specs.Statements.{right_side_notes, behind_right_side, items_notes, behind_items, returned_notes, dropped_notes, leap_notes, statement_notes, statement_form_notes, statements_notes, arms_notes}
 use Rattle.generated_certificates.specs.Means.{FunMeans, NamesMean}
 use Rattle.generated_certificates.specs.Bodies.{BodyMeans}
-use Rattle.generated_certificates.specs.Kept.{IsWithin, IsKept, AllKept}
+use Rattle.generated_certificates.specs.RulesKept.{IsWithin, IsKept, AllKept}
 use Rattle.generated_certificates.proofs.Parts.{nothing, note_here, fits_eq, parts_kept, around_kept, one_kept}
 use Rattle.generated_certificates.proofs.Lengths.{expression_notes_length, expressions_notes_length, first_note}
 use Rattle.generated_certificates.proofs.StatementLengths.{right_side_notes_length, items_notes_length, leap_notes_length, statement_notes_length, statements_notes_length, arms_notes_length}

@@ -38,7 +38,7 @@ use Rattle.expression_meaning.proofs.Typing.{typed}
 use Rattle.generated_certificates.specs.Items.{noted, push}
 use Rattle.generated_certificates.specs.Expressions.{word_kind, link_notes, behind_args, expression_notes, form_notes, expressions_notes, links_notes, expression_depth, form_depth, expressions_depth, links_depth}
 use Rattle.generated_certificates.specs.Means.{FunMeans, NamesMean}
-use Rattle.generated_certificates.specs.Kept.{IsWithin, IsKept, AllKept}
+use Rattle.generated_certificates.specs.RulesKept.{IsWithin, IsKept, AllKept}
 use Rattle.generated_certificates.proofs.Parts.{nothing, note_here, fits_eq, parts_kept, around_kept, one_kept}
 use Rattle.generated_certificates.proofs.Lengths.{expression_notes_length, expressions_notes_length, link_notes_length, first_note}
 use Rattle.generated_certificates.proofs.WordKinds.{kind_is}

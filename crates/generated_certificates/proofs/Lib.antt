@@ -1,3 +1,5 @@
+-- Proofs of generated_certificates: the code of typed expressions and statements has certificates, and the
+-- tables of a well-typed program's code keep the verifier's rules.
 pub mod Parts
 pub mod Lengths
 pub mod WordKinds

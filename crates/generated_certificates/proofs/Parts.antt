@@ -7,7 +7,7 @@ use Rattle.rev_code.specs.declared.code.Instr.{Instr}
 use Rattle.code_rules.specs.Pass.{Note, known}
 use Rattle.code_soundness.specs.Certificate.{Fits}
 use Rattle.generated_certificates.specs.Items.{noted}
-use Rattle.generated_certificates.specs.Kept.{IsKept, AllKept}
+use Rattle.generated_certificates.specs.RulesKept.{IsKept, AllKept}
 
 pub nothing : Unit {0}
 nothing = tt

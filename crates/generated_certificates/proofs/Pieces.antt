@@ -45,7 +45,7 @@ use Rattle.generated_certificates.specs.Expressions.{word_kind, behind_args, exp
 use Rattle.generated_certificates.specs.Statements.{result_kind, right_side_notes, behind_right_side, items_notes, behind_items, returned_notes, dropped_notes}
 use Rattle.generated_certificates.specs.Means.{FunMeans, NamesMean}
 use Rattle.generated_certificates.specs.Bodies.{FunApplies, BodyMeans}
-use Rattle.generated_certificates.specs.Kept.{IsWithin, IsKept, AllKept}
+use Rattle.generated_certificates.specs.RulesKept.{IsWithin, IsKept, AllKept}
 use Rattle.generated_certificates.proofs.Parts.{nothing, note_here, fits_eq, parts_kept, one_kept}
 use Rattle.generated_certificates.proofs.Lengths.{expression_notes_length, expressions_notes_length, first_note}
 use Rattle.generated_certificates.proofs.WordKinds.{kind_is}

@@ -15,7 +15,7 @@ use Rattle.code_rules.specs.Shapes.{Shape, one_or_none, takes, gives, begins, sh
 use Rattle.code_rules.specs.Pass.{Note, entry, target, falls, names, is_pure, is_bare, is_paid_for, paid_after, bad_operand, bad_local, is_value_class}
 use Rattle.code_soundness.specs.Certificate.{Fits, IsJumped, leaves}
 use Rattle.generated_certificates.specs.Items.{noted, push}
-use Rattle.generated_certificates.specs.Kept.{IsWithin, IsKept}
+use Rattle.generated_certificates.specs.RulesKept.{IsWithin, IsKept}
 pub use Rattle.rev_num.proofs.Lists.{false_no as no}
 
 pub begins_one : (t : ValueKind) (s : Shape) → begins (t ∷ []) (t ∷ s) ≡ true

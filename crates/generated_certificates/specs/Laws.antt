@@ -16,7 +16,7 @@ use Rattle.expression_meaning.specs.Applying.{AllApply}
 use Rattle.generated_certificates.specs.Items.{noted, push}
 use Rattle.generated_certificates.specs.Expressions.{expression_notes, expression_depth}
 use Rattle.generated_certificates.specs.Means.{FunMeans, NamesMean}
-use Rattle.generated_certificates.specs.Kept.{IsWithin, AllKept}
+use Rattle.generated_certificates.specs.RulesKept.{IsWithin, AllKept}
 
 -- An expression that has a kind stands in a block with its notes, above what a first note says, and
 -- its value fits the note behind it; names mean there what they mean in the program, and there is

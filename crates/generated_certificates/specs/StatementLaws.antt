@@ -16,7 +16,7 @@ use Rattle.code_generation.specs.Statements.{Spot, statements_code}
 use Rattle.code_generation.specs.Stands.{HasAt, HasItems}
 use Rattle.generated_certificates.specs.Items.{noted}
 use Rattle.generated_certificates.specs.Means.{NamesMean}
-use Rattle.generated_certificates.specs.Kept.{IsWithin, AllKept}
+use Rattle.generated_certificates.specs.RulesKept.{IsWithin, AllKept}
 use Rattle.generated_certificates.specs.Statements.{statements_notes}
 use Rattle.generated_certificates.specs.Bodies.{BodyMeans, Tables}
 

@@ -16,7 +16,7 @@ use Rattle.hub_core.specs.declared.view.View.{View}
 use Rattle.hub_core.specs.Seats.{HasState, HasFork, HasJoin, HasEnd, HasTrap, IsSameSeat}
 use Rattle.hub_core.specs.Views.{sees}
 use Rattle.turn_hub.specs.Answers.{EndedOn, EndStepSays, JoinSays, OnwardSays, WaitedOn}
-use Rattle.hub_workers.specs.declared.legs.Event.TheVariants as event
+use Rattle.hub_workers.specs.declared.legs.LegEvent.TheVariants as event
 use Rattle.hub_workers.specs.Legs.{IsReached, HaveMet, Comes, IsEndBy, IsSameHand}
 use Rattle.hub_workers.specs.Nexts.{of_onward, of_step}
 use Rattle.hub_workers.specs.Work.{IsHandOf, StandsAtFork, HasMetOnce, HasAnswer, HasNext}

@@ -16,7 +16,7 @@ use Rattle.hub_core.proofs.Worlds.{claimed}
 use Rattle.turn_hub.specs.declared.answers.JoinAnswer.{JoinAnswer}
 use Rattle.turn_hub.specs.declared.answers.JoinAnswer.TheVariants as join
 use Rattle.turn_hub.specs.Answers.{Forked, ForkedBehind, HaltedBehind, IsHalted, Settled, TakesIn, TookJoinee, Waited}
-use Rattle.hub_workers.specs.declared.legs.Event.TheVariants as event
+use Rattle.hub_workers.specs.declared.legs.LegEvent.TheVariants as event
 use Rattle.hub_workers.specs.Legs.{IsReached, Comes, IsEndBy, EndsHere}
 use Rattle.hub_workers.specs.Work.{IsHandOf, HasMetOnce, StaysFor, IsOwing}
 use Rattle.hub_workers.specs.Handed.{HasHandedIn, IsAlone, IsPair}

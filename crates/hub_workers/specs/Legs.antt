@@ -11,10 +11,10 @@ use Rattle.revision_machine.specs.Numbered.{Bears, Goes}
 use Rattle.hub_core.specs.Replay.{state_after}
 use Rattle.hub_core.specs.Hub.{Stands, IsEnd, Meets}
 use Rattle.hub_core.specs.HubMachine.{HubMachine, numbered, values}
-use Rattle.hub_workers.specs.declared.legs.Event.{Event}
-use Rattle.hub_workers.specs.declared.legs.Event.TheVariants as event
-use Rattle.hub_workers.specs.declared.legs.Settled.{Settled}
-use Rattle.hub_workers.specs.declared.legs.Settled.TheVariants as settled
+use Rattle.hub_workers.specs.declared.legs.LegEvent.{LegEvent}
+use Rattle.hub_workers.specs.declared.legs.LegEvent.TheVariants as event
+use Rattle.hub_workers.specs.declared.legs.SettledLeg.{SettledLeg}
+use Rattle.hub_workers.specs.declared.legs.SettledLeg.TheVariants as settled
 
 module _ {L R A E : Type 0} (d : HubMachine L R A E) where
   -- a schedule leads from such a start to a world in which a revision has this state
@@ -26,12 +26,12 @@ module _ {L R A E : Type 0} (d : HubMachine L R A E) where
     pub stands : state_after (numbered d) start schedule number ≡ Some l
 
   -- what is run of an event belongs to this
-  abbrev pub IsEventOf : {F : Type 0} → (F → List ℕ) → List ℕ → Event F A E → Type 0
+  abbrev pub IsEventOf : {F : Type 0} → (F → List ℕ) → List ℕ → LegEvent F A E → Type 0
   IsEventOf fork_group group (event.Fork f) = fork_group f ≡ group
   IsEventOf fork_group group (event.Join a) = d.joiner_group a ≡ group
   IsEventOf fork_group group (event.End e) = Unit {0}
 
-  abbrev pub IsSettledOf : List ℕ → Settled R E → Type 0
+  abbrev pub IsSettledOf : List ℕ → SettledLeg R E → Type 0
   IsSettledOf group (settled.Run r) = d.runner_group r ≡ group
   IsSettledOf group (settled.Trap e) = Unit {0}
 
@@ -52,12 +52,12 @@ module _ {L R A E : Type 0} (d : HubMachine L R A E) (ends : E → L → Type 0)
     abbrev pub EndsHere : E → L → Type 0
     EndsHere e l = IsEndBy true e l ⊎ ((last : L) × (d.next l ≡ Goes last) × IsEndBy false e last)
 
-    abbrev pub Comes : {F : Type 0} → (F → ℕ → L) → (F → L) → L → Event F A E → Type 0
+    abbrev pub Comes : {F : Type 0} → (F → ℕ → L) → (F → L) → L → LegEvent F A E → Type 0
     Comes forker child l (event.Fork f) = d.next l ≡ Bears (forker f) (child f)
     Comes forker child l (event.Join a) = Stands (numbered d) (values d ends) a l
     Comes forker child l (event.End e) = (last : L) × (d.next l ≡ Goes last) × IsEndBy false e last
 
-    abbrev pub IsSettled : L → Settled R E → Type 0
+    abbrev pub IsSettled : L → SettledLeg R E → Type 0
     IsSettled l (settled.Run r) = d.runs r ≡ l
     IsSettled l (settled.Trap e) = IsEndBy true e l
 

@@ -7,7 +7,7 @@ use hub_core::Revision;
 use std::alloc::AllocError;
 
 /// Where a leg leads.
-pub enum Event<F, A, E> {
+pub enum LegEvent<F, A, E> {
     Fork(F),
     Join(A),
     /// It has ended, by itself.
@@ -15,7 +15,7 @@ pub enum Event<F, A, E> {
 }
 
 /// What becomes of a joiner that has taken an end in.
-pub enum Settled<R, E> {
+pub enum SettledLeg<R, E> {
     Run(R),
     /// Its join trapped it.
     Trap(E),
@@ -53,7 +53,7 @@ pub trait Legs: Revision {
     fn run_leg(
         hand: &mut Self::Hand,
         runner: Self::Runner,
-    ) -> Result<Event<Self::AtFork, Self::AtJoin, Self::End>, AllocError>
+    ) -> Result<LegEvent<Self::AtFork, Self::AtJoin, Self::End>, AllocError>
         requires state { IsReached Self.machine (begins hand.old)
             (Self.machine.runs runner) }
         requires group { Self.machine.runner_group runner ≡ hand_group hand.old }
@@ -85,7 +85,7 @@ pub trait Legs: Revision {
     fn settle(
         hand: &mut Self::Hand,
         claimed: Self::Claimed,
-    ) -> Result<Settled<Self::Runner, Self::End>, AllocError>
+    ) -> Result<SettledLeg<Self::Runner, Self::End>, AllocError>
         requires met { (a : Self.AtJoin) × (e : Self.End)
             × Self.claimed claimed a e × (Self.machine.trapped e ≡ false)
             × HaveMet Self.machine Self.ends (begins hand.old) a e }

@@ -14,7 +14,7 @@ mod worker;
 
 pub use bell::Bell;
 pub use gate::{Gate, OpenGate};
-pub use legs::{Event, Legs, Settled};
+pub use legs::{LegEvent, Legs, SettledLeg};
 pub use running::{Finished, NotBegun, run};
 pub use threads::{Worker, run_workers};
 pub use vectors::take_last;

@@ -13,7 +13,7 @@ ghost use Rattle.hub_workers.specs.Handed.{IsPair, OnlyNext};
 
 use crate::bell::Bell;
 use crate::gate::Gate;
-use crate::legs::{Event, Legs, Settled};
+use crate::legs::{LegEvent, Legs, SettledLeg};
 use crate::next::Next;
 use crate::worker::{halt, hand_in, join};
 use std::sync::Wait;
@@ -141,9 +141,9 @@ pub fn step_owing<L: Legs, G: Gate, W: Wait>(
 {
     gate.enter(number);
     match L::run_leg(hand, runner) {
-        Ok(Event::Fork(at)) => fork_owing(rt, hub, bell, seat, hand, number, joinee, at),
-        Ok(Event::Join(at)) => join_owing(rt, hub, bell, seat, hand, number, joinee, at),
-        Ok(Event::End(end)) => end_owing(rt, hub, bell, seat, number, joinee, end),
+        Ok(LegEvent::Fork(at)) => fork_owing(rt, hub, bell, seat, hand, number, joinee, at),
+        Ok(LegEvent::Join(at)) => join_owing(rt, hub, bell, seat, hand, number, joinee, at),
+        Ok(LegEvent::End(end)) => end_owing(rt, hub, bell, seat, number, joinee, end),
         Err(_) => {
             halt(rt, hub, seat);
             Next::Nothing
@@ -177,12 +177,12 @@ fn settle_claimed<L: Legs, W: Wait>(
     ensures only { IsPair (view_of seat.old) joinee number → OnlyNext (view_of seat.new) result }
 {
     match L::settle(hand, claimed) {
-        Ok(Settled::Run(runner)) => Next::Owing {
+        Ok(SettledLeg::Run(runner)) => Next::Owing {
             number,
             runner,
             joinee,
         },
-        Ok(Settled::Trap(end)) => end_owing(rt, hub, bell, seat, number, joinee, end),
+        Ok(SettledLeg::Trap(end)) => end_owing(rt, hub, bell, seat, number, joinee, end),
         Err(_) => {
             halt(rt, hub, seat);
             Next::Nothing
@@ -346,9 +346,11 @@ pub fn step_joinee<L: Legs, G: Gate, W: Wait>(
 {
     gate.enter(number);
     match L::run_leg(hand, runner) {
-        Ok(Event::Fork(fork)) => fork_joinee(rt, hub, bell, seat, hand, number, fork, joiner, at),
-        Ok(Event::Join(own)) => join_joinee(rt, hub, bell, seat, hand, number, own, joiner, at),
-        Ok(Event::End(end)) => claim(rt, hub, bell, seat, hand, number, end, joiner, at),
+        Ok(LegEvent::Fork(fork)) => fork_joinee(
+            rt, hub, bell, seat, hand, number, fork, joiner, at,
+        ),
+        Ok(LegEvent::Join(own)) => join_joinee(rt, hub, bell, seat, hand, number, own, joiner, at),
+        Ok(LegEvent::End(end)) => claim(rt, hub, bell, seat, hand, number, end, joiner, at),
         Err(_) => {
             halt(rt, hub, seat);
             L::give_up_joiner(hand, at);

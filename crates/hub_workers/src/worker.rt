@@ -7,7 +7,7 @@ ghost use Rattle.hub_workers.specs.Handed.{HasHandedIn, IsAlone, OnlyAnswer, Onl
 
 use crate::bell::Bell;
 use crate::gate::Gate;
-use crate::legs::{Event, Legs, Settled};
+use crate::legs::{LegEvent, Legs, SettledLeg};
 use crate::next::{Next, after_end, after_joiner};
 use crate::scout::{Scout, pass_on};
 use crate::staying::{step_joinee, step_owing};
@@ -75,8 +75,8 @@ fn settle<L: Legs, W: Wait>(
     ensures only { IsAlone (view_of seat.old) number → OnlyNext (view_of seat.new) result }
 {
     match L::settle(hand, claimed) {
-        Ok(Settled::Run(runner)) => Next::Run { number, runner },
-        Ok(Settled::Trap(end)) => hand_in(rt, hub, bell, seat, number, end),
+        Ok(SettledLeg::Run(runner)) => Next::Run { number, runner },
+        Ok(SettledLeg::Trap(end)) => hand_in(rt, hub, bell, seat, number, end),
         Err(_) => {
             halt(rt, hub, seat);
             Next::Nothing
@@ -233,9 +233,9 @@ fn step<L: Legs, G: Gate, W: Wait>(
 {
     gate.enter(number);
     match L::run_leg(hand, runner) {
-        Ok(Event::Fork(at)) => fork(rt, hub, bell, seat, hand, number, at),
-        Ok(Event::Join(at)) => join(rt, hub, bell, seat, hand, number, at),
-        Ok(Event::End(end)) => hand_in(rt, hub, bell, seat, number, end),
+        Ok(LegEvent::Fork(at)) => fork(rt, hub, bell, seat, hand, number, at),
+        Ok(LegEvent::Join(at)) => join(rt, hub, bell, seat, hand, number, at),
+        Ok(LegEvent::End(end)) => hand_in(rt, hub, bell, seat, number, end),
         Err(_) => {
             halt(rt, hub, seat);
             Next::Nothing

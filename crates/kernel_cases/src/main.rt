@@ -15,7 +15,7 @@ mod rows;
 
 use case_tables::{Pieces, Tally, play_table};
 use merge_kernels::{
-    Kernel, RowKernel, RowRun, Run, greatest, greatest_def, least, least_def, sum, sum_def,
+    Kernel, NumberRun, RowKernel, RowRun, greatest, greatest_def, least, least_def, sum, sum_def,
     sum_lanes,
 };
 use rev_num::NumFault;
@@ -24,7 +24,7 @@ use std::io;
 
 fn main(rt: HostRuntime) -> io::Result<()> {
     let alloc = rt.alloc();
-    let by_sum: Run = Box::new(
+    let by_sum: NumberRun = Box::new(
         alloc,
         |m: i64, j: i64, r: i64| -> Result<i64, NumFault>
             ensures { result ≡ answer_of sum_expression m j r }
@@ -36,19 +36,19 @@ fn main(rt: HostRuntime) -> io::Result<()> {
             ensures { result ≡ lanes_answer (answer_of sum_expression) m j r }
         { sum_lanes(m, j, r) },
     )?;
-    let by_greatest: Run = Box::new(
+    let by_greatest: NumberRun = Box::new(
         alloc,
         |m: i64, j: i64, r: i64| -> Result<i64, NumFault>
             ensures { result ≡ answer_of greatest_expression m j r }
         { greatest(m, j, r) },
     )?;
-    let by_least: Run = Box::new(
+    let by_least: NumberRun = Box::new(
         alloc,
         |m: i64, j: i64, r: i64| -> Result<i64, NumFault>
             ensures { result ≡ answer_of least_expression m j r }
         { least(m, j, r) },
     )?;
-    let again: Run = Box::new(
+    let again: NumberRun = Box::new(
         alloc,
         |m: i64, j: i64, r: i64| -> Result<i64, NumFault>
             ensures { result ≡ answer_of sum_expression m j r }

@@ -19,7 +19,7 @@ use Rattle.code_machine.specs.Local.{CodeRun, IsVerified, Local, at_work, of_wor
 use Rattle.code_machine.specs.Machines.{numbered, Holds, IsMain, start_in}
 use Rattle.code_machine.specs.Renamed.{renamed_as, renamed_location, renamed_word}
 use Rattle.code_machine.proofs.Typing.{worlds_proper}
-use Rattle.plain_words.specs.Agreement.{AreWords}
+use Rattle.block_run.specs.Agreement.{AreWords}
 use Rattle.code_memos.specs.Freshness.{FreshByNumber}
 use Rattle.code_memos.specs.Leaf.{Fresh, IsFresh, unwritten}
 use Rattle.code_memos.proofs.Entries.{one_args}

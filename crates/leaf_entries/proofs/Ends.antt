@@ -16,7 +16,7 @@ use Rattle.version_map.specs.Ascending.{IsAscending}
 use Rattle.version_map.specs.Composing.{Entry}
 use Rattle.version_map.specs.declared.end.EndValue.{EndValue}
 use Rattle.version_map.specs.declared.end.Written.{Written}
-use Rattle.plain_words.specs.Agreement.{IsWord}
+use Rattle.block_run.specs.Agreement.{IsWord}
 use Rattle.code_machine.specs.Ends.{AreEntries, Ascend, IsEntry}
 use Rattle.code_machine.specs.Local.{CodeRun, Phase, running, done, trapped}
 use Rattle.code_machine.specs.Renamed.{renamed_handle, renamed_phase, renamed_word}
@@ -24,7 +24,7 @@ use Rattle.code_memos.specs.Leaf.{Fresh, Known, reroot, rerooted, root_or}
 use Rattle.code_memos.specs.Renaming.{renamed_end, renamed_entry}
 use Rattle.code_world.specs.declared.freshness.FreshStart as rust
 use Rattle.rev_vm.specs.Meaning.{AreWritten, IsEnd, IsPhase, IsWritten}
-use Rattle.leaf_entries.specs.declared.entry.Kept.{Kept}
+use Rattle.leaf_entries.specs.declared.entry.KeptValue.{KeptValue}
 use Rattle.leaf_entries.specs.declared.entry.LeafEnd.{LeafEnd}
 use Rattle.leaf_entries.specs.declared.entry.LeafEnd.TheVariants as leaf
 use Rattle.leaf_entries.specs.declared.entry.LeafEntry.{LeafEntry}
@@ -46,7 +46,7 @@ number_absent (p ∷ ps) q none =
     ap (λ b. cond b zero (suc (number_of ps q))) (apart-same p q (λ e. none (inl (sym e))))
     ∙ ap suc (number_absent ps q (λ i. none (inr i)))
 
-pub over_same : (t : List Path) (base base' : List ℕ) (ks ks' : List Kept) (ws ws' : List Written) → base ≡ base'
+pub over_same : (t : List Path) (base base' : List ℕ) (ks ks' : List KeptValue) (ws ws' : List Written) → base ≡ base'
     → ks ≡ ks' → ws' ≡ ws → AreOver t base ks ws → AreOver t base' ks' ws'
 over_same t base base' ks ks' ws ws' b k w o =
     subst (AreOver t base' ks') (sym w) (subst (λ z. AreOver t base' z ws) k (subst (λ z. AreOver t z ks ws) b o))
@@ -83,7 +83,7 @@ module _ (t : List Path) (base : List ℕ) where
 
 -- ---- places
 
-inside_of : (kinds : List ValueKind) (es : List (Entry (Word Path))) → AreEntries kinds es → (x : Kept)
+inside_of : (kinds : List ValueKind) (es : List (Entry (Word Path))) → AreEntries kinds es → (x : KeptValue)
     → Has (map kept_write es) x → x.location < length kinds
 inside_of kinds [] f x i = has_none x i
 inside_of kinds (e ∷ es) f x i = by (λ j. inside_of kinds es f.1 x j) (has_one x (kept_write e) (map kept_write es) i)
@@ -93,7 +93,7 @@ inside_of kinds (e ∷ es) f x i = by (λ j. inside_of kinds es f.1 x j) (has_on
     by later (inr j) = later j
     by later (inl is) =
         let h = slice_get_within kinds e.location f.0.kind f.0.there in
-        let same = ap (λ (z : Kept). z.location) is in
+        let same = ap (λ (z : KeptValue). z.location) is in
         omega (arith, h, same)
 
 pub writes_inside : (code : Code) (t : List Path) (f : Fresh Path) (x : rust.FreshStart) → BeginsAt code t f x

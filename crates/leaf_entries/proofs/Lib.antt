@@ -5,7 +5,7 @@ pub mod Beginning
 pub mod Telling
 pub mod Adopting
 pub mod Validity
-pub mod Made
+pub mod EntryOfLeaf
 pub mod Ends
 pub mod Located
 pub mod Loops

@@ -12,7 +12,7 @@ use Rattle.code_machine.specs.Outcome.{value_of}
 use Rattle.leg_run.specs.Standing.{word_as}
 use Rattle.version_map.specs.declared.end.Written.{Written}
 use Rattle.leaf_entries.specs.declared.entry.Given.{Given}
-use Rattle.leaf_entries.specs.declared.entry.Kept.{Kept}
+use Rattle.leaf_entries.specs.declared.entry.KeptValue.{KeptValue}
 use Rattle.leaf_entries.specs.Standing.{Has, given}
 use Rattle.leaf_entries.specs.Words.{AreOver, HasGiven, HasRead, IsOver, args_of, kept_at, value_at}
 use Rattle.leaf_entries.proofs.Lists.{has_before, has_either, has_last}
@@ -84,7 +84,7 @@ module _ (noted : ℕ → Option ℕ) (inputs : List ℤ) (n : ℕ) (read : List
       let same : given n one.number ≡ one = λ j. record { position = sym place j; number = one.number } in
       subst (λ z. HasGiven noted inputs (n + 1) (read ++ z ∷ [])) same (given_next one.number is on1)
 
-module _ (path : ℕ → Path) (vars : List CodeVar) (noted : ℕ → Option ℕ) (base : List ℕ) (n : ℕ) (read : List Kept)
+module _ (path : ℕ → Path) (vars : List CodeVar) (noted : ℕ → Option ℕ) (base : List ℕ) (n : ℕ) (read : List KeptValue)
     (h : HasRead path vars noted base n read) where
   pub read_none : is_some (noted n) ≡ false → HasRead path vars noted base (n + 1) read
   read_none off = record {
@@ -97,7 +97,7 @@ module _ (path : ℕ → Path) (vars : List CodeVar) (noted : ℕ → Option ℕ
       by l w on1 e (inl k) = h.all l w k on1 e
       by l w on1 e (inr k) = absurd (let clash : true ≡ false = sym on1 ∙ ap (λ y. is_some (noted y)) k ∙ off in cc)
 
-  pub read_more : (w : ℕ) → slice_get base n ≡ Some w → is_some (noted n) ≡ true → (one : Kept)
+  pub read_more : (w : ℕ) → slice_get base n ≡ Some w → is_some (noted n) ≡ true → (one : KeptValue)
       → one ≡ kept_at path vars n w → HasRead path vars noted base (n + 1) (read ++ one ∷ [])
   read_more w is on1 one made = subst (λ y. HasRead path vars noted base (n + 1) (read ++ y ∷ [])) (sym made) (record {
     all = λ l u small on e. by l u on e (earlier n l small);
@@ -112,17 +112,17 @@ module _ (path : ℕ → Path) (vars : List CodeVar) (noted : ℕ → Option ℕ
           subst (Has (read ++ kept_at path vars n w ∷ [])) (λ j. kept_at path vars (sym k j) (sym same j))
           (has_last read (kept_at path vars n w))
 
-      then_only : (x : Kept) → Has read x ⊎ (x ≡ kept_at path vars n w)
+      then_only : (x : KeptValue) → Has read x ⊎ (x ≡ kept_at path vars n w)
           → (u : ℕ) × (x.location < n + 1) × (is_some (noted x.location) ≡ true) × (slice_get base x.location ≡ Some u)
           × (x.value ≡ value_at path vars x.location u)
       then_only x (inl i) = let k = h.only x i in let s = k.1 in (k.0, omega (arith, s), k.2, k.3, k.4)
       then_only x (inr e) =
-          let at = ap (λ (y : Kept). y.location) e in (
+          let at = ap (λ (y : KeptValue). y.location) e in (
             w,
             omega (arith, at),
             ap (λ y. is_some (noted y)) at ∙ on1,
             ap (slice_get base) at ∙ is,
-            ap (λ (y : Kept). y.value) e ∙ ap (λ l. value_at path vars l w) (sym at),
+            ap (λ (y : KeptValue). y.value) e ∙ ap (λ l. value_at path vars l w) (sym at),
           )
 
 -- ---- arguments
@@ -157,7 +157,7 @@ args_done path kinds words n out whole few so_far =
 
 -- ---- writes
 
-over_more : (t : List Path) (base : List ℕ) (ks : List Kept) (ws : List Written) (k : Kept) (w : Written)
+over_more : (t : List Path) (base : List ℕ) (ks : List KeptValue) (ws : List Written) (k : KeptValue) (w : Written)
     → AreOver t base ks ws → IsOver t base k w → AreOver t base (ks ++ k ∷ []) (ws ++ w ∷ [])
 over_more t base [] [] k w a o = (o, tt)
 over_more t base [] (x ∷ ws) k w a o = absurd a
@@ -178,7 +178,7 @@ take_every [] (suc n) few = refl
 take_every (x ∷ xs) zero few = absurd (omega (arith, few))
 take_every (x ∷ xs) (suc n) few = ap (λ l. x ∷ l) (take_every xs n (omega (arith, few)))
 
-pub over_one : (t : List Path) (base : List ℕ) (written : List Kept) (n : ℕ) (k : Kept) (out new : List Written)
+pub over_one : (t : List Path) (base : List ℕ) (written : List KeptValue) (n : ℕ) (k : KeptValue) (out new : List Written)
     (w : Written)
     → n < length written → k ≡ get_or written n k
     → IsOver t base k w → new ≡ out ++ w ∷ [] → AreOver t base (take n written) out
@@ -191,6 +191,6 @@ over_one t base written n k out new w less is o pushed so_far =
     subst (AreOver t base (take (n + 1) written)) (sym pushed)
     (subst (λ z. AreOver t base z (out ++ w ∷ [])) split both)
 
-pub over_all : (t : List Path) (base : List ℕ) (written : List Kept) (n : ℕ) (out : List Written) → length written ≤ n
+pub over_all : (t : List Path) (base : List ℕ) (written : List KeptValue) (n : ℕ) (out : List Written) → length written ≤ n
     → AreOver t base (take n written) out → AreOver t base written out
 over_all t base written n out few a = subst (λ z. AreOver t base z out) (take_every written n few) a

@@ -14,7 +14,7 @@ use Rattle.code_reads.specs.Reads.{Read, reach_reads}
 use Rattle.code_reads.specs.Legs.{leg_reads}
 use Rattle.code_reads.specs.Moved.{AllAgree}
 use Rattle.code_reads.proofs.Own.{own_reads_agree}
-use Rattle.noting_run.specs.declared.notes.Noted.{Noted}
+use Rattle.noting_run.specs.declared.notes.ReadMarks.{ReadMarks}
 use Rattle.noting_run.specs.Marks.{Mark, mark_of, marks_of, has_location, has_input, has_count, HasMarked}
 use Rattle.code_machine.specs.Local.{CodeRun, under, Local, at_work, of_word, of_written, of_locations, of_phase, of_state, with_entry, written_from, end_of}
 use Rattle.code_machine.specs.Leg.{leg, clock}
@@ -63,7 +63,7 @@ or_false : (b : Bool) → (b || false) ≡ b
 or_false true = refl
 or_false false = refl
 
-noted_of : (blank noted : Noted) (ms : List Mark) → IsBlank blank → HasMarked blank noted ms → HasNoted noted ms
+noted_of : (blank noted : ReadMarks) (ms : List Mark) → IsBlank blank → HasMarked blank noted ms → HasNoted noted ms
 noted_of blank noted ms b h = record {
   locations_are =
       λ n. h.locations_are n ∙ ap (λ z. has_location ms n || z) (b.locations_are n) ∙ or_false (has_location ms n);

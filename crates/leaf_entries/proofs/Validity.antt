@@ -11,7 +11,7 @@ use Rattle.code_reads.specs.Reads.{Read}
 use Rattle.code_reads.specs.Moved.{Agrees, AllAgree}
 use Rattle.code_memos.specs.Leaf.{Fresh, Known, IsValid}
 use Rattle.code_world.specs.declared.freshness.FreshStart as rust
-use Rattle.leaf_entries.specs.declared.entry.Kept.{Kept}
+use Rattle.leaf_entries.specs.declared.entry.KeptValue.{KeptValue}
 use Rattle.leaf_entries.specs.declared.entry.LeafEntry.{LeafEntry}
 use Rattle.leaf_entries.specs.Begins.{BeginsAt}
 use Rattle.leaf_entries.specs.Standing.{Has, HasReads, StandsFor, given, kept, value}
@@ -34,7 +34,7 @@ module _ (xs : List (Word Path)) (inputs : List ℤ) where
   each_all [] h = tt
   each_all (x ∷ rs) h = (h x (has_first x rs), each_all rs (λ r i. h r (has_later r x rs i)))
 
-pub here_same : (path : ℕ → Path) (d : Bool) (vars vars' : List CodeVar) (base base' : List ℕ) (read read' : List Kept)
+pub here_same : (path : ℕ → Path) (d : Bool) (vars vars' : List CodeVar) (base base' : List ℕ) (read read' : List KeptValue)
     → vars ≡ vars' → base ≡ base' → read ≡ read'
     → (d ≡ true) ↔ AreHere path vars base read → (d ≡ true) ↔ AreHere path vars' base' read'
 here_same path d vars vars' base base' read read' v b r h =

@@ -12,7 +12,7 @@ use Rattle.rev_code.specs.declared.code.CodeVar.{CodeVar}
 use Rattle.rev_code.specs.Words.{Word, int, bool, rev, kind_of}
 use Rattle.code_rules.specs.Shapes.{kind_or_int}
 use Rattle.code_soundness.specs.Typed.{location_kinds}
-use Rattle.plain_words.specs.Agreement.{AreWords}
+use Rattle.block_run.specs.Agreement.{AreWords}
 use Rattle.revision_machine.specs.Laws.{IsIn}
 use Rattle.revision_machine.specs.Numbered.{number_of, or_path, path_in}
 use Rattle.revision_machine.proofs.Bearing.{in_front, in_back}

@@ -11,7 +11,7 @@ use Rattle.version_map.specs.declared.end.EndValue.{EndValue}
 use Rattle.revision_machine.specs.Machine.{Plain}
 use Rattle.revision_machine.specs.Numbered.{Entries, Listing, at_number, paths_of, begin, Replays}
 use Rattle.code_reads.specs.Legs.{leg_reads}
-use Rattle.noting_run.specs.declared.notes.Noted.{Noted}
+use Rattle.noting_run.specs.declared.notes.ReadMarks.{ReadMarks}
 use Rattle.noting_run.specs.Marks.{marks_of, HasMarked}
 use Rattle.code_machine.specs.Local.{CodeRun, IsVerified, Local, at_work, End, end_of}
 use Rattle.code_machine.specs.Leg.{leg}
@@ -45,7 +45,7 @@ FreshBegins =
     → BeginsAt g.code (paths_of w) y.begins.begins x)
 
 pub record HasLeafEntry (g : CodeRun) (number : ℕ) (main : IsMain g number) (fuel : ℕ) (t : List Path) (r : Path)
-    (x : rust.FreshStart) (noted : Noted) (v : EndValue) : Type 0 where
+    (x : rust.FreshStart) (noted : ReadMarks) (v : EndValue) : Type 0 where
   pub known : Known
   pub entry : IsEntry g number main fuel known
   pub path : known.path ≡ r
@@ -58,7 +58,7 @@ LeafIsTold =
     OfUnlisted (λ g number main fuel w r c.
     (l : Local ℕ) → ended_by (leg g c) ≡ Some l
     → (here : Fresh ℕ) → IsFresh g.code here c → (x : rust.FreshStart) → IsBegun here x
-    → (blank noted : Noted) → IsBlank blank → HasMarked blank noted (marks_of (leg_reads g c))
+    → (blank noted : ReadMarks) → IsBlank blank → HasMarked blank noted (marks_of (leg_reads g c))
     → (v : EndValue) → IsEnd g (end_of l) v
     → HasLeafEntry g number main fuel (paths_of w) r x noted v)
 

@@ -20,7 +20,7 @@ use Rattle.code_machine.specs.Local.{Phase, running, done, trapped, End}
 use Rattle.code_machine.specs.Outcome.{value_of}
 use Rattle.code_memos.specs.Leaf.{Known}
 use Rattle.leaf_entries.specs.declared.entry.Given.{Given}
-use Rattle.leaf_entries.specs.declared.entry.Kept.{Kept}
+use Rattle.leaf_entries.specs.declared.entry.KeptValue.{KeptValue}
 use Rattle.leaf_entries.specs.declared.entry.LeafEnd.{LeafEnd}
 use Rattle.leaf_entries.specs.declared.entry.LeafEnd.TheVariants as leaf
 use Rattle.leaf_entries.specs.declared.entry.LeafEntry.{LeafEntry}
@@ -31,7 +31,7 @@ Has xs x = (i : ℕ) × (slice_get xs i ≡ Some x)
 abbrev pub value : Word Path → Value
 value w = value_of (λ p. p) w
 
-abbrev pub kept : ℕ → Word Path → Kept
+abbrev pub kept : ℕ → Word Path → KeptValue
 kept n w = record { location = n; value = value w }
 
 abbrev pub given : ℕ → ℤ → Given
@@ -39,7 +39,7 @@ given n z = record { position = n; number = z }
 
 pub record HasReads (k : LeafEntry) (rs : List (Read Path)) : Type 0 where
   pub locations : (n : ℕ) (w : Word Path) → Has rs (reads.location n w) → Has k.locations (kept n w)
-  pub no_location : (x : Kept) → Has k.locations x
+  pub no_location : (x : KeptValue) → Has k.locations x
       → (w : Word Path) × (x.value ≡ value w) × Has rs (reads.location x.location w)
   pub positions : (n : ℕ) (z : ℤ) → Has rs (reads.input n z) → Has k.inputs (given n z)
   pub no_position : (x : Given) → Has k.inputs x → Has rs (reads.input x.position x.number)
@@ -53,7 +53,7 @@ IsLeafEnd done (leaf.Trapped cause line) = ⊥
 IsLeafEnd (trapped t) leaf.Done = ⊥
 IsLeafEnd running e = ⊥
 
-abbrev pub kept_write : Entry (Word Path) → Kept
+abbrev pub kept_write : Entry (Word Path) → KeptValue
 kept_write x = kept x.location x.value
 
 pub record StandsFor (k : LeafEntry) (e : Known) : Type 0 where

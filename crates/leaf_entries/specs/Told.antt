@@ -11,19 +11,19 @@ use Rattle.revision_machine.specs.Numbered.{number_of}
 use Rattle.version_map.specs.Composing.{Entry}
 use Rattle.version_map.specs.Deltas.{at}
 use Rattle.version_map.specs.declared.end.EndValue.{EndValue}
-use Rattle.noting_run.specs.declared.notes.Noted.{Noted}
+use Rattle.noting_run.specs.declared.notes.ReadMarks.{ReadMarks}
 use Rattle.noting_run.specs.Marks.{Mark, marks_of, has_location, has_input, has_count}
 use Rattle.code_machine.specs.Local.{CodeRun, Phase, running, done, trapped, of_word}
 use Rattle.code_memos.specs.Renaming.{renamed_end}
 use Rattle.code_memos.specs.Leaf.{Fresh, Known, IsValid}
 use Rattle.rev_vm.specs.Meaning.{IsEnd}
 
-pub record HasNoted (noted : Noted) (ms : List Mark) : Type 0 where
+pub record HasNoted (noted : ReadMarks) (ms : List Mark) : Type 0 where
   pub locations_are : (n : ℕ) → is_some (at noted.locations n) ≡ has_location ms n
   pub inputs_are : (n : ℕ) → is_some (at noted.inputs n) ≡ has_input ms n
   pub count_is : noted.count ≡ has_count ms
 
-abbrev pub IsBlank : Noted → Type 0
+abbrev pub IsBlank : ReadMarks → Type 0
 IsBlank noted = HasNoted noted []
 
 abbrev pub IsAlone : Phase Path → Type 0
@@ -37,7 +37,7 @@ of_values [] = []
 of_values (x ∷ xs) = of_word x.value ++ of_values xs
 
 -- the entry is that of a revision that began so
-pub record IsTold (g : CodeRun) (t : List Path) (f : Fresh Path) (noted : Noted) (v : EndValue) (e : Known) : Type 0 where
+pub record IsTold (g : CodeRun) (t : List Path) (f : Fresh Path) (noted : ReadMarks) (v : EndValue) (e : Known) : Type 0 where
   pub own : IsValid e e.path f g.inputs
   pub noted_are : HasNoted noted (marks_of e.reads)
   pub end : IsEnd g (renamed_end (number_of t) e.end) v

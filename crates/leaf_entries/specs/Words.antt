@@ -20,7 +20,7 @@ use Rattle.rev_code.specs.declared.code.CodeVar.{CodeVar}
 use Rattle.rev_code.specs.Words.{Word}
 use Rattle.code_rules.specs.Shapes.{kind_or_int}
 use Rattle.code_soundness.specs.Typed.{location_kinds}
-use Rattle.plain_words.specs.Agreement.{IsWord}
+use Rattle.block_run.specs.Agreement.{IsWord}
 use Rattle.revision_machine.specs.Numbered.{number_of}
 use Rattle.version_map.specs.declared.end.Finish.{Finish}
 use Rattle.version_map.specs.declared.end.Finish.TheVariants as finish
@@ -30,7 +30,7 @@ use Rattle.code_machine.specs.Renamed.{renamed_word}
 use Rattle.leg_run.specs.Standing.{word_as, words_as}
 use Rattle.code_world.specs.declared.freshness.FreshStart as rust
 use Rattle.leaf_entries.specs.declared.entry.Given.{Given}
-use Rattle.leaf_entries.specs.declared.entry.Kept.{Kept}
+use Rattle.leaf_entries.specs.declared.entry.KeptValue.{KeptValue}
 use Rattle.leaf_entries.specs.declared.entry.LeafEnd.{LeafEnd}
 use Rattle.leaf_entries.specs.declared.entry.LeafEnd.TheVariants as leaf
 use Rattle.leaf_entries.specs.declared.entry.LeafEntry.{LeafEntry}
@@ -47,23 +47,23 @@ module _ (path : ℕ → Path) where
     abbrev pub value_at : (location word : ℕ) → Value
     value_at l w = value_of path (word_as (kind_at vars l) w)
 
-    abbrev pub kept_at : (location word : ℕ) → Kept
+    abbrev pub kept_at : (location word : ℕ) → KeptValue
     kept_at l w = record { location = l; value = value_at l w }
 
-    abbrev pub written_of : List Written → List Kept
+    abbrev pub written_of : List Written → List KeptValue
     written_of ws = map (λ w. kept_at w.location w.value) ws
 
-    pub record HasRead (noted : ℕ → Option ℕ) (base : List ℕ) (many : ℕ) (read : List Kept) : Type 0 where
+    pub record HasRead (noted : ℕ → Option ℕ) (base : List ℕ) (many : ℕ) (read : List KeptValue) : Type 0 where
       pub all : (l w : ℕ) → l < many → is_some (noted l) ≡ true → slice_get base l ≡ Some w → Has read (kept_at l w)
-      pub only : (x : Kept) → Has read x
+      pub only : (x : KeptValue) → Has read x
           → (w : ℕ) × (x.location < many) × (is_some (noted x.location) ≡ true) × (slice_get base x.location ≡ Some w)
           × (x.value ≡ value_at x.location w)
 
-    abbrev pub IsHere : (base : List ℕ) → Kept → Type 0
+    abbrev pub IsHere : (base : List ℕ) → KeptValue → Type 0
     IsHere base x = (w : ℕ) × (slice_get base x.location ≡ Some w) × (value_at x.location w ≡ x.value)
 
-    abbrev pub AreHere : (base : List ℕ) → List Kept → Type 0
-    AreHere base read = (x : Kept) → Has read x → IsHere base x
+    abbrev pub AreHere : (base : List ℕ) → List KeptValue → Type 0
+    AreHere base read = (x : KeptValue) → Has read x → IsHere base x
 
 pub record HasGiven (noted : ℕ → Option ℕ) (inputs : List ℤ) (many : ℕ) (read : List Given) : Type 0 where
   pub all : (n : ℕ) (z : ℤ) → n < many → is_some (noted n) ≡ true → slice_get inputs n ≡ Some z → Has read (given n z)
@@ -95,16 +95,16 @@ abbrev pub finish_of : LeafEnd → Finish
 finish_of leaf.Done = finish.Done
 finish_of (leaf.Trapped cause line) = finish.Trapped (record { cause = cause; line = line; origin = None })
 
-abbrev pub AreInside : (many : ℕ) → List Kept → Type 0
-AreInside many written = (x : Kept) → Has written x → x.location < many
+abbrev pub AreInside : (many : ℕ) → List KeptValue → Type 0
+AreInside many written = (x : KeptValue) → Has written x → x.location < many
 
 module _ (t : List Path) (base : List ℕ) where
-  pub record IsOver (k : Kept) (w : Written) : Type 0 where
+  pub record IsOver (k : KeptValue) (w : Written) : Type 0 where
     pub location : w.location ≡ k.location
     pub value_is : (u : Word Path) → k.value ≡ value u → IsWord (renamed_word (number_of t) u) w.value
     pub root : w.root ≡ get_or base k.location 0
 
-  abbrev pub AreOver : List Kept → List Written → Type 0
+  abbrev pub AreOver : List KeptValue → List Written → Type 0
   AreOver [] [] = Unit {0}
   AreOver (k ∷ ks) (w ∷ ws) = IsOver k w × AreOver ks ws
   AreOver [] (w ∷ ws) = ⊥

@@ -5,7 +5,7 @@ ghost use Rattle.rev_num.specs.Path.{Path as DefinedPath};
 ghost use Rattle.revision_machine.specs.Laws.{IsDistinct};
 ghost use Rattle.revision_machine.specs.Numbered.{number_of};
 ghost use Rattle.rev_code.specs.Words.{Word};
-ghost use Rattle.plain_words.specs.Agreement.{IsWord};
+ghost use Rattle.block_run.specs.Agreement.{IsWord};
 ghost use Rattle.code_machine.specs.Local.{CodeRun};
 ghost use Rattle.code_machine.specs.Renamed.{renamed_word};
 ghost use Rattle.code_memos.specs.Leaf.{Fresh as DefinedFresh, Known, rerooted};
@@ -16,7 +16,7 @@ ghost use Rattle.leaf_entries.specs.Begins.{BeginsAt};
 ghost use Rattle.leaf_entries.specs.Standing.{EndFits, StandsFor, value};
 ghost use Rattle.leaf_entries.specs.Words.{AreInside, AreOver, IsOver, finish_of};
 
-use crate::entry::{Kept, LeafEnd, LeafEntry};
+use crate::entry::{KeptValue, LeafEnd, LeafEntry};
 use code_runs::number_of;
 use code_world::{Birth, FreshStart};
 use rev_num::{Items, Path, Value, word_of_int};
@@ -56,7 +56,7 @@ fn word_of(births: &[Birth], held: &Value) -> u64
 }
 
 /// What was written at a location, as words, with its root in these.
-fn write_over(births: &[Birth], base: &[u64], one: &Kept) -> Written
+fn write_over(births: &[Birth], base: &[u64], one: &KeptValue) -> Written
     requires few { length births.now ≤ 2 ^ 32 }
     requires names { (paths : List DefinedPath) × Names births.now paths }
     requires inside { one.now.location < length base.now }
@@ -76,7 +76,7 @@ fn writes_over(
     alloc: Global,
     births: &[Birth],
     base: &[u64],
-    written: &[Kept],
+    written: &[KeptValue],
 ) -> Result<Vec<Written>, AllocError>
     requires few { length births.now ≤ 2 ^ 32 }
     requires names { (paths : List DefinedPath) × Names births.now paths }

@@ -4,7 +4,7 @@ use rev_num::{Bytes, Cause, Items, Path, Value};
 
 /// A location, and its value. A handle is a path.
 #[derive(Drop)]
-pub struct Kept {
+pub struct KeptValue {
     pub location: u32,
     pub value: Value,
 }
@@ -32,12 +32,12 @@ pub struct LeafEntry {
     pub args: Items<Value>,
     pub fuel: u64,
     /// The locations whose words in the snapshot it read, with those.
-    pub locations: Items<Kept>,
+    pub locations: Items<KeptValue>,
     /// The positions of the input whose numbers it read, with those.
     pub inputs: Items<Given>,
     /// How many inputs there were, if it read that.
     pub count: Option<u64>,
-    pub written: Items<Kept>,
+    pub written: Items<KeptValue>,
     pub text: Bytes,
     /// The fuel that it left.
     pub rest: u64,

@@ -13,7 +13,7 @@ mod valid;
 mod values;
 
 pub use ending::end_over;
-pub use entry::{Given, Kept, LeafEnd, LeafEntry};
+pub use entry::{Given, KeptValue, LeafEnd, LeafEntry};
 pub use laws::{adopt_laws, fresh_law, leaf_law};
 pub use making::make_entry;
 pub use notes::blank;

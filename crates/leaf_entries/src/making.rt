@@ -18,7 +18,7 @@ use crate::values::{args_values, kept_writes};
 use code_runs::path_of;
 use code_world::{Birth, FreshStart};
 use leg_run::CodeSetting;
-use noting_run::Noted;
+use noting_run::ReadMarks;
 use rev_num::Items;
 use std::alloc::{AllocError, Global};
 use version_map::{CodeTrap, EndValue, Finish};
@@ -47,7 +47,7 @@ pub fn make_entry(
     births: &[Birth],
     number: u32,
     start: &FreshStart,
-    noted: &Noted,
+    noted: &ReadMarks,
     end: &EndValue,
 ) -> Result<LeafEntry, AllocError>
     requires names { (t : List DefinedPath) × Names births.now t }

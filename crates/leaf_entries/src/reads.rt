@@ -7,7 +7,7 @@ ghost use Rattle.version_map.specs.Deltas.{at, locations};
 ghost use Rattle.code_runs.specs.Births.{path_in};
 ghost use Rattle.leaf_entries.specs.Words.{HasGiven, HasRead, count_of};
 
-use crate::entry::{Given, Kept};
+use crate::entry::{Given, KeptValue};
 use crate::values::kept;
 use code_world::Birth;
 use rev_code::CodeVar;
@@ -21,7 +21,7 @@ pub(crate) fn locations_read(
     variables: &[CodeVar],
     noted: &Delta,
     base: &[u64],
-) -> Result<Vec<Kept>, AllocError>
+) -> Result<Vec<KeptValue>, AllocError>
     requires names { (paths : List DefinedPath) × Names births.now paths }
     requires many { locations noted.now ≡ length base.now }
     ensures { IfOk result (λ v. (paths : List DefinedPath) → Names births.now paths

@@ -10,7 +10,7 @@ ghost use Rattle.leaf_entries.specs.Standing.{StandsFor};
 ghost use Rattle.leaf_entries.specs.Words.{AreGiven, AreHere, IsCount, IsHere, IsSameStart};
 ghost use Rattle.leaf_entries.specs.Words.{args_of};
 
-use crate::entry::{Given, Kept, LeafEntry};
+use crate::entry::{Given, KeptValue, LeafEntry};
 use crate::kinds::kind_of;
 use crate::values::{are_values, args_values, is_value};
 use code_runs::value_of;
@@ -68,7 +68,7 @@ fn is_here(
     births: &[Birth],
     variables: &[CodeVar],
     base: &[u64],
-    one: &Kept,
+    one: &KeptValue,
 ) -> Result<bool, AllocError>
     requires { (paths : List DefinedPath) × Names births.now paths }
     ensures { IfOk result (λ b. (paths : List DefinedPath) → Names births.now paths
@@ -89,7 +89,7 @@ fn has_kept(
     births: &[Birth],
     variables: &[CodeVar],
     base: &[u64],
-    read: &[Kept],
+    read: &[KeptValue],
 ) -> Result<bool, AllocError>
     requires { (paths : List DefinedPath) × Names births.now paths }
     ensures { IfOk result (λ b. (paths : List DefinedPath) → Names births.now paths

@@ -6,7 +6,7 @@ ghost use Rattle.code_world.specs.Endings.{Names};
 ghost use Rattle.code_runs.specs.Births.{path_in};
 ghost use Rattle.leaf_entries.specs.Words.{args_of, kept_at, written_of};
 
-use crate::entry::Kept;
+use crate::entry::KeptValue;
 use crate::kinds::kind_of;
 use code_runs::value_of;
 use code_world::Birth;
@@ -65,13 +65,13 @@ pub(crate) fn kept(
     variables: &[CodeVar],
     location: u32,
     word: u64,
-) -> Result<Kept, AllocError>
+) -> Result<KeptValue, AllocError>
     requires { (paths : List DefinedPath) × Names births.now paths }
     ensures { IfOk result (λ k. (paths : List DefinedPath) → Names births.now paths
         → k ≡ kept_at (path_in paths) variables.now location word) }
 {
     let value = value_of(alloc, births, kind_of(variables, location), word)?;
-    Ok(Kept { location, value })
+    Ok(KeptValue { location, value })
 }
 
 /// The locations that were written, with their values.
@@ -80,7 +80,7 @@ pub(crate) fn kept_writes(
     births: &[Birth],
     variables: &[CodeVar],
     written: &[Written],
-) -> Result<Vec<Kept>, AllocError>
+) -> Result<Vec<KeptValue>, AllocError>
     requires { (paths : List DefinedPath) × Names births.now paths }
     ensures { IfOk result (λ v. (paths : List DefinedPath) → Names births.now paths
         → v.items ≡ written_of (path_in paths) variables.now written.now) }

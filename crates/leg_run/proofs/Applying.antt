@@ -17,11 +17,11 @@ use Rattle.code_rules.specs.Pass.{has_class}
 use Rattle.code_rules.specs.Verdict.{first_fault}
 use Rattle.code_soundness.proofs.Basics.{and_parts, some_eq}
 use Rattle.code_soundness.specs.Typed.{kinds_of}
-use Rattle.code_soundness.specs.Whole.{notes_of}
+use Rattle.code_soundness.specs.AcceptedCode.{notes_of}
 use Rattle.code_soundness.proofs.Accepting.{no_fault_costs}
 use Rattle.code_soundness.proofs.Cases.{fun_evaluates}
 use Rattle.code_soundness.proofs.Lists.{kinds_length, reverse_length, taken}
-use Rattle.plain_words.specs.Agreement.{AreWords, IsWord}
+use Rattle.block_run.specs.Agreement.{AreWords, IsWord}
 use Rattle.block_run.specs.Area.{count, low, run_of, stack_of}
 use Rattle.block_run.specs.Remembering.{Kept}
 use Rattle.block_run.specs.Standing.{program, AreSeen, Here, IsOfValue, IsRoomy}

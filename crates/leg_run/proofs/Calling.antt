@@ -17,7 +17,7 @@ use Rattle.code_rules.specs.Pass.{has_class}
 use Rattle.code_rules.specs.Verdict.{first_fault}
 use Rattle.code_soundness.specs.Typed.{kinds_of}
 use Rattle.code_soundness.proofs.Lists.{drop_whole, kinds_length, reverse_length, taken}
-use Rattle.plain_words.specs.Agreement.{AreWords}
+use Rattle.block_run.specs.Agreement.{AreWords}
 use Rattle.block_run.specs.Area.{low, run_of, stack_of}
 use Rattle.block_run.specs.Standing.{program, Here, IsRoomy}
 use Rattle.block_run.specs.declared.registers.Registers.{Registers}

@@ -9,8 +9,8 @@ use Rattle.rev_code.specs.Words.{Word, int, bool, rev, kind_of}
 use Rattle.rev_code.specs.State.{Frame, Location, State}
 use Rattle.code_soundness.proofs.Basics.{some_eq}
 use Rattle.code_soundness.specs.Typed.{kinds_of, location_kinds, AllWaiting, AreLocations, IsLocation, IsFrame}
-use Rattle.code_soundness.specs.Whole.{notes_of}
-use Rattle.plain_words.specs.Agreement.{IsWord, AreWords}
+use Rattle.code_soundness.specs.AcceptedCode.{notes_of}
+use Rattle.block_run.specs.Agreement.{IsWord, AreWords}
 use Rattle.block_run.specs.Area.{low, stack_of}
 use Rattle.block_run.specs.Standing.{IsSeen, AreSeen}
 use Rattle.leg_run.specs.declared.revision.Run.{Run}

@@ -16,12 +16,12 @@ use Rattle.code_rules.specs.Verdict.{first_fault}
 use Rattle.code_soundness.specs.Certificate.{IsNoted}
 use Rattle.code_soundness.proofs.Basics.{some_eq}
 use Rattle.code_soundness.specs.Typed.{kinds_of, IsRevision}
-use Rattle.code_soundness.specs.Whole.{IsAccepted, notes_of}
+use Rattle.code_soundness.specs.AcceptedCode.{IsAccepted, notes_of}
 use Rattle.code_soundness.proofs.Accepting.{no_fault_accepted}
 use Rattle.code_soundness.proofs.Lists.{kinds_length, reverse_length, take_append}
 use Rattle.code_soundness.proofs.Places.{operand_good}
 use Rattle.code_soundness.proofs.Reaching.{has_step, is_safe}
-use Rattle.plain_words.specs.Agreement.{AreWords}
+use Rattle.block_run.specs.Agreement.{AreWords}
 use Rattle.block_run.specs.Area.{low, stack_of}
 use Rattle.block_run.specs.Standing.{program, Here, IsRoomy}
 use Rattle.block_run.proofs.Onward.{stack_length, words_length}

@@ -16,7 +16,7 @@ use Rattle.code_rules.specs.Pass.{has_class}
 use Rattle.code_rules.specs.Verdict.{first_fault}
 use Rattle.code_soundness.specs.Typed.{kinds_of}
 use Rattle.code_soundness.proofs.Lists.{taken}
-use Rattle.plain_words.specs.Agreement.{AreWords, IsWord, handle}
+use Rattle.block_run.specs.Agreement.{AreWords, IsWord, handle}
 use Rattle.block_run.specs.Area.{low, run_of}
 use Rattle.block_run.proofs.Stacks.{upper}
 use Rattle.leg_run.specs.declared.revision.LegEnd.TheVariants as end

@@ -13,7 +13,7 @@ use Rattle.code_rules.specs.Verdict.{first_fault}
 use Rattle.code_machine.specs.Leg.{IsEvent}
 use Rattle.code_machine.specs.Local.{CodeRun}
 use Rattle.code_soundness.proofs.Accepting.{no_fault_accepted}
-use Rattle.plain_words.specs.Agreement.{AreInputs}
+use Rattle.block_run.specs.Agreement.{AreInputs}
 use Rattle.noting_run.specs.Runs.{step_reads, reads_of}
 use Rattle.noting_run.proofs.Adding.{leg_reads_of_steps, marks_more}
 use Rattle.noting_run.proofs.IfOn.{marked_more_if_on}
@@ -27,8 +27,8 @@ use Rattle.noting_run.proofs.Rounds.{reads_nothing}
 use Rattle.leg_run.specs.declared.revision.LegEnd.{LegEnd}
 use Rattle.leg_run.specs.declared.revision.LegEnd.TheVariants as end
 use Rattle.leg_run.specs.declared.revision.Run.{Run}
-use Rattle.leg_run.specs.declared.turn.Turn.{Turn}
-use Rattle.leg_run.specs.declared.turn.Turn.TheVariants as turn
+use Rattle.leg_run.specs.declared.turn.BlockExit.{BlockExit}
+use Rattle.leg_run.specs.declared.turn.BlockExit.TheVariants as turn
 use Rattle.leg_run.specs.Changes.{SameRest}
 use Rattle.leg_run.specs.Ends.{EventAt, TurnsTo}
 use Rattle.leg_run.specs.Noting.{Notes, HasMarkedIfOn, HasNotedLeg, HasNotedTo, RoundTo, marks_of}
@@ -116,7 +116,7 @@ module _ (code : Code) (ok : first_fault code ≡ None) (inputs : List ℤ) (sha
         subst (λ rs. HasMarkedIfOn old new (marks_of rs))
         (sym (ap (λ rs. reads_of l.ahead.steps ++ rs) none ∙ append-nil (reads_of l.ahead.steps))) h.noted
 
-    pub turned_noting : (run' : Run) (seen'' : ℕ → ℕ) (root'' : ℕ → Option ℕ) (v : Turn)
+    pub turned_noting : (run' : Run) (seen'' : ℕ → ℕ) (root'' : ℕ → Option ℕ) (v : BlockExit)
         → TurnsTo code inputs share h.leaving.ahead.now v run' seen'' root''
         → RoundTo code inputs share c v run' seen'' root'' old new
     turned_noting run' seen'' root'' turn.Goes k =

@@ -22,7 +22,7 @@ use Rattle.code_rules.specs.Verdict.{first_fault}
 use Rattle.fun_run.proofs.Slices.{drop_at}
 use Rattle.code_soundness.specs.Typed.{kinds_of}
 use Rattle.code_soundness.proofs.Lists.{kinds_length, reverse_length, taken}
-use Rattle.plain_words.specs.Agreement.{AreWords, IsWord}
+use Rattle.block_run.specs.Agreement.{AreWords, IsWord}
 use Rattle.block_run.specs.Area.{low, run_of, stack_of}
 use Rattle.block_run.specs.Standing.{program, Here, IsRoomy}
 use Rattle.block_run.specs.declared.registers.Registers.{Registers}

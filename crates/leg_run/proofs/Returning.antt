@@ -16,7 +16,7 @@ use Rattle.code_rules.specs.Shapes.{begins, one_or_none}
 use Rattle.code_rules.specs.Verdict.{first_fault}
 use Rattle.code_soundness.proofs.Basics.{and_parts}
 use Rattle.code_soundness.specs.Typed.{kinds_of}
-use Rattle.plain_words.specs.Agreement.{AreWords, IsWord}
+use Rattle.block_run.specs.Agreement.{AreWords, IsWord}
 use Rattle.block_run.specs.Area.{low, stack_of}
 use Rattle.block_run.specs.Standing.{program, Here, IsRoomy}
 use Rattle.block_run.specs.declared.registers.Registers.{Registers}

@@ -19,7 +19,7 @@ use Rattle.code_machine.proofs.Events as events
 use Rattle.code_machine.proofs.Events.{IsAt}
 use Rattle.code_machine.proofs.Legs.{no_longer}
 use Rattle.code_soundness.specs.Typed.{location_kinds, AreLocations, IsRevision}
-use Rattle.code_soundness.specs.Whole.{notes_of}
+use Rattle.code_soundness.specs.AcceptedCode.{notes_of}
 use Rattle.code_soundness.proofs.Accepting.{no_fault_accepted}
 use Rattle.code_soundness.proofs.Reaching.{is_safe}
 use Rattle.block_run.specs.Standing.{program, Ahead, Here, IsRoomy, IsTrapped}
@@ -28,7 +28,7 @@ use Rattle.fun_run.proofs.Running.{steps_on}
 use Rattle.leg_run.specs.declared.revision.LegEnd.{LegEnd}
 use Rattle.leg_run.specs.declared.revision.LegEnd.TheVariants as end
 use Rattle.leg_run.specs.declared.revision.Run.{Run}
-use Rattle.leg_run.specs.declared.turn.Turn.TheVariants as turn
+use Rattle.leg_run.specs.declared.turn.BlockExit.TheVariants as turn
 use Rattle.leg_run.specs.Changes.{SameRest}
 use Rattle.leg_run.specs.Ends.{Leaves, LegEnds, StandsAt}
 use Rattle.leg_run.specs.Noting.{Notes, RoundTo}

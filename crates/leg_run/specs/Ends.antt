@@ -17,8 +17,8 @@ use Rattle.block_run.specs.Standing.{AreSeen}
 use Rattle.leg_run.specs.declared.revision.LegEnd.{LegEnd}
 use Rattle.leg_run.specs.declared.revision.LegEnd.TheVariants as end
 use Rattle.leg_run.specs.declared.revision.Run.{Run}
-use Rattle.leg_run.specs.declared.turn.Turn.{Turn}
-use Rattle.leg_run.specs.declared.turn.Turn.TheVariants as turn
+use Rattle.leg_run.specs.declared.turn.BlockExit.{BlockExit}
+use Rattle.leg_run.specs.declared.turn.BlockExit.TheVariants as turn
 use Rattle.leg_run.specs.Standing.{Stands, IsStanding, listed_as, state_of}
 
 -- ---- what is left of a revision that has ended
@@ -79,7 +79,7 @@ pub record GoesOn (code : Code) (inputs : List ℤ) (share : ℕ) (c : State ℕ
   pub goes : step (setting code inputs share) c ≡ goes next
   pub stands : Stands code inputs share run seen root next
 
-abbrev pub TurnsTo : Code → List ℤ → (share : ℕ) → State ℕ → Turn → Run → (seen : ℕ → ℕ) → (root : ℕ → Option ℕ) → Type 0
+abbrev pub TurnsTo : Code → List ℤ → (share : ℕ) → State ℕ → BlockExit → Run → (seen : ℕ → ℕ) → (root : ℕ → Option ℕ) → Type 0
 TurnsTo code inputs share c turn.Goes run seen root = GoesOn code inputs share c run seen root
 TurnsTo code inputs share c (turn.Ends e) run seen root =
     EndsAt (setting code inputs share) c e × StandsAt code inputs share c e run seen root

@@ -8,13 +8,13 @@ use Rattle.rev_code.specs.Step.{goes, step, Steps}
 use Rattle.rev_code.specs.Funs.{setting}
 use Rattle.noting_run.specs.Runs.{step_reads, reads_of}
 use Rattle.noting_run.specs.ByMarks.{leg_reads}
-pub use Rattle.noting_run.specs.declared.notes.Noted.{Noted}
+pub use Rattle.noting_run.specs.declared.notes.ReadMarks.{ReadMarks}
 pub use Rattle.noting_run.specs.declared.notes.Notes.{Notes}
 pub use Rattle.noting_run.specs.Marks.{marks_of, HasMarked}
 pub use Rattle.noting_run.specs.WhereOn.{HasMarkedIfOn, HasPlaces, HasPlacesIfOn, is_on}
 use Rattle.leg_run.specs.declared.revision.Run.{Run}
-use Rattle.leg_run.specs.declared.turn.Turn.{Turn}
-use Rattle.leg_run.specs.declared.turn.Turn.TheVariants as turn
+use Rattle.leg_run.specs.declared.turn.BlockExit.{BlockExit}
+use Rattle.leg_run.specs.declared.turn.BlockExit.TheVariants as turn
 use Rattle.leg_run.specs.Ends.{EventAt, StandsAt}
 use Rattle.leg_run.specs.Standing.{Stands}
 
@@ -28,7 +28,7 @@ abbrev pub HasNotedTo : (code : Code) (inputs : List ℤ) (share : ℕ) (c last 
 HasNotedTo code inputs share c last steps old new =
     HasMarkedIfOn old new (marks_of (reads_of steps ++ step_reads (setting code inputs share) last))
 
-abbrev pub RoundTo : Code → List ℤ → (share : ℕ) → State ℕ → Turn → Run → (seen : ℕ → ℕ) → (root : ℕ → Option ℕ)
+abbrev pub RoundTo : Code → List ℤ → (share : ℕ) → State ℕ → BlockExit → Run → (seen : ℕ → ℕ) → (root : ℕ → Option ℕ)
     → (old new : Notes) → Type 0
 RoundTo code inputs share c turn.Goes run seen root old new =
     (last : State ℕ) × (next : State ℕ) × (steps : Steps (setting code inputs share) c last)

@@ -14,8 +14,8 @@ use Rattle.rev_code.specs.declared.code.CodeBlock.{CodeBlock}
 use Rattle.rev_code.specs.Words.{Word, int, bool, rev}
 use Rattle.rev_code.specs.State.{Frame, Listed, Location, State, forked, joined}
 use Rattle.code_soundness.specs.Typed.{location_kinds}
-use Rattle.code_soundness.specs.Whole.{notes_of}
-use Rattle.plain_words.specs.Agreement.{AreWords}
+use Rattle.code_soundness.specs.AcceptedCode.{notes_of}
+use Rattle.block_run.specs.Agreement.{AreWords}
 use Rattle.block_run.specs.Area.{stack_of}
 use Rattle.block_run.specs.Standing.{program, Here, IsRoomy}
 use Rattle.leg_run.specs.declared.revision.Meeting.{Meeting}

@@ -15,7 +15,7 @@ ghost use Rattle.leg_run.specs.Standing.{Stands};
 use crate::calls::ensure;
 use crate::revision::{LegEnd, Run};
 use crate::setting::CodeSetting;
-use crate::turn::Turn;
+use crate::turn::BlockExit;
 use block_run::Memory;
 use fun_run::{block_at, evaluate, params_of};
 use rev_code::CodeBlock;
@@ -56,7 +56,7 @@ pub fn apply<P: Snapshot>(
     run: &mut Run,
     b: &CodeBlock,
     n: u16,
-) -> Result<Turn, AllocError>
+) -> Result<BlockExit, AllocError>
     requires size { P.size memory.old.snapshot ≡ count setting.now.code.vars }
     requires block { slice_get setting.now.code.blocks run.old.registers.block ≡ Some b.now }
     requires instr { slice_get b.now.instrs run.old.registers.at ≡ Some (i.Apply n) }
@@ -85,8 +85,8 @@ pub fn apply<P: Snapshot>(
     ) {
         Ok(value) => {
             take_value(run, low, value);
-            Ok(Turn::Goes)
+            Ok(BlockExit::Goes)
         },
-        Err(fault) => Ok(Turn::Ends(LegEnd::Trap(cause_of(fault)))),
+        Err(fault) => Ok(BlockExit::Ends(LegEnd::Trap(cause_of(fault)))),
     }
 }

@@ -12,7 +12,7 @@ ghost use Rattle.leg_run.specs.Standing.{Stands};
 
 use crate::revision::{LegEnd, Run, Waiting};
 use crate::setting::CodeSetting;
-use crate::turn::Turn;
+use crate::turn::BlockExit;
 use block_run::Registers;
 use fun_run::{begin, block_at};
 use rev_code::CodeBlock;
@@ -99,7 +99,12 @@ fn enter(
 }
 
 /// Calls a block, or traps where the revision has 1,000 frames already.
-pub fn call(setting: &CodeSetting, run: &mut Run, b: &CodeBlock, n: u16) -> Result<Turn, AllocError>
+pub fn call(
+    setting: &CodeSetting,
+    run: &mut Run,
+    b: &CodeBlock,
+    n: u16,
+) -> Result<BlockExit, AllocError>
     requires block { slice_get setting.now.code.blocks run.old.registers.block ≡ Some b.now }
     requires instr { slice_get b.now.instrs run.old.registers.at ≡ Some (i.Call n) }
     requires stands { (seen : ℕ → ℕ) × (root : ℕ → Option ℕ) × (c : State ℕ)
@@ -110,11 +115,11 @@ pub fn call(setting: &CodeSetting, run: &mut Run, b: &CodeBlock, n: u16) -> Resu
         root) }
 {
     if run.below.len() + 1 >= MOST_FRAMES {
-        return Ok(Turn::Ends(LegEnd::Trap(Cause::CallDepth)));
+        return Ok(BlockExit::Ends(LegEnd::Trap(Cause::CallDepth)));
     }
     let called = block_at(&setting.code, n);
     enter(run, b, n, called, setting.room(n))?;
-    Ok(Turn::Goes)
+    Ok(BlockExit::Goes)
 }
 
 /// Moves the result of a block, if it has one, to where its frame began, and gives the place behind
@@ -159,7 +164,7 @@ fn go_back(run: &mut Run, b: &CodeBlock, w: Waiting)
 }
 
 /// Returns to the frame below; in the first frame the revision ends.
-pub fn leave(setting: &CodeSetting, run: &mut Run, b: &CodeBlock) -> Turn
+pub fn leave(setting: &CodeSetting, run: &mut Run, b: &CodeBlock) -> BlockExit
     requires block { slice_get setting.now.code.blocks run.old.registers.block ≡ Some b.now }
     requires instr { slice_get b.now.instrs run.old.registers.at ≡ Some i.Return }
     requires stands { (seen : ℕ → ℕ) × (root : ℕ → Option ℕ) × (c : State ℕ)
@@ -170,10 +175,10 @@ pub fn leave(setting: &CodeSetting, run: &mut Run, b: &CodeBlock) -> Turn
         root }
 {
     match run.below.pop() {
-        None => Turn::Ends(LegEnd::End),
+        None => BlockExit::Ends(LegEnd::End),
         Some(w) => {
             go_back(run, b, w);
-            Turn::Goes
+            BlockExit::Goes
         },
     }
 }

@@ -15,9 +15,9 @@ use crate::apply_fun::apply;
 use crate::calls::{call, leave};
 use crate::joins::join;
 use crate::prints::print;
-use crate::revision::{LegEnd, Revision, Run};
+use crate::revision::{LegEnd, Run, RunningRevision};
 use crate::setting::CodeSetting;
-use crate::turn::Turn;
+use crate::turn::BlockExit;
 use block_run::{Memory, Stop};
 use fun_run::block_at;
 use noting_run::{Notes, run_leg_block};
@@ -39,7 +39,7 @@ fn turn_at<P: Snapshot>(
     memory: &mut Memory<P>,
     run: &mut Run,
     b: &CodeBlock,
-) -> Result<Turn, AllocError>
+) -> Result<BlockExit, AllocError>
     requires size { P.size memory.old.snapshot ≡ count setting.now.code.vars }
     requires block { slice_get setting.now.code.blocks run.old.registers.block ≡ Some b.now }
     requires leaves { (x : Instr) × (slice_get b.now.instrs run.old.registers.at ≡ Some x)
@@ -60,11 +60,11 @@ fn turn_at<P: Snapshot>(
         Instr::Call(n) => call(setting, run, b, n),
         Instr::Print(n) => {
             print(setting, run, b, n)?;
-            Ok(Turn::Goes)
+            Ok(BlockExit::Goes)
         },
-        Instr::Fork(n) => Ok(Turn::Ends(LegEnd::Fork(n))),
-        Instr::Join => Ok(Turn::Ends(join(setting, run, b, false))),
-        Instr::TryJoin => Ok(Turn::Ends(join(setting, run, b, true))),
+        Instr::Fork(n) => Ok(BlockExit::Ends(LegEnd::Fork(n))),
+        Instr::Join => Ok(BlockExit::Ends(join(setting, run, b, false))),
+        Instr::TryJoin => Ok(BlockExit::Ends(join(setting, run, b, true))),
         _ => Ok(leave(setting, run, b)),
     }
 }
@@ -76,7 +76,7 @@ fn go_on<P: Snapshot, const ON: bool>(
     memory: &mut Memory<P>,
     run: &mut Run,
     notes: &mut Notes,
-) -> Result<Turn, AllocError>
+) -> Result<BlockExit, AllocError>
     requires size { P.size memory.old.snapshot ≡ count setting.now.code.vars }
     requires stands { (c : State ℕ)
         × Stands setting.now.code setting.now.inputs.items setting.now.share run.old
@@ -107,7 +107,7 @@ fn go_on<P: Snapshot, const ON: bool>(
         &mut run.registers,
         notes,
     ) {
-        Stop::Traps(cause) => Ok(Turn::Ends(LegEnd::Trap(cause))),
+        Stop::Traps(cause) => Ok(BlockExit::Ends(LegEnd::Trap(cause))),
         _ => turn_at(setting, memory, run, b),
     }
 }
@@ -118,7 +118,7 @@ fn go_on<P: Snapshot, const ON: bool>(
 /// nothing of the notes.
 pub fn run<P: Snapshot, const ON: bool>(
     setting: &CodeSetting,
-    revision: &mut Revision<P>,
+    revision: &mut RunningRevision<P>,
     notes: &mut Notes,
 ) -> Result<LegEnd, AllocError>
     requires size { P.size revision.old.memory.snapshot ≡ count setting.now.code.vars }
@@ -145,8 +145,8 @@ pub fn run<P: Snapshot, const ON: bool>(
 {
     loop {
         match go_on::<P, ON>(setting, &mut revision.memory, &mut revision.run, notes)? {
-            Turn::Goes => {},
-            Turn::Ends(end) => return Ok(end),
+            BlockExit::Goes => {},
+            BlockExit::Ends(end) => return Ok(end),
         }
     }
 }

@@ -16,10 +16,10 @@ pub use apply_fun::apply;
 pub use calls::{call, leave};
 pub use joins::join;
 pub use legs::run;
-pub use noting_run::{Noted, Notes};
-pub use revision::{LegEnd, Meeting, Revision, Run, Waiting};
+pub use noting_run::{Notes, ReadMarks};
+pub use revision::{LegEnd, Meeting, Run, RunningRevision, Waiting};
 pub use setting::CodeSetting;
-pub use turn::Turn;
+pub use turn::BlockExit;
 
 /// A revision stands for no state but its own.
 pub fn standing_law()

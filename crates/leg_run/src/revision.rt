@@ -38,17 +38,17 @@ pub struct Run {
 }
 
 /// A running revision.
-pub struct Revision<P: Snapshot> {
+pub struct RunningRevision<P: Snapshot> {
     pub memory: Memory<P>,
     pub run: Run,
 }
 
-impl<P: Snapshot> Revision<P> {
+impl<P: Snapshot> RunningRevision<P> {
     /// Lets the revision go, as after want of memory, and gives its snapshot back.
     pub fn give_up(self) -> P::Spent
         ensures { P.spent_group result ≡ P.group self.memory.snapshot }
     {
-        let Revision { memory, run: _ } = self;
+        let RunningRevision { memory, run: _ } = self;
         let Memory {
             delta: _,
             first: _,

@@ -3,7 +3,7 @@
 ghost use Rattle.std.specs.Prelude.{◌≡◌, ◌<◌, IfOk, None, Some, length, slice_get};
 ghost use Rattle.rev_code.specs.declared.code.CodeBlock.{CodeBlock};
 ghost use Rattle.code_rules.specs.Verdict.{first_fault};
-ghost use Rattle.plain_words.specs.Agreement.{AreInputs};
+ghost use Rattle.block_run.specs.Agreement.{AreInputs};
 ghost use Rattle.block_run.specs.Area.{table_from};
 ghost use Rattle.fun_run.specs.Rooms.{AreRooms, IsRoom, are_rooms_prop};
 

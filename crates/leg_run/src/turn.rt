@@ -4,7 +4,7 @@ use crate::revision::LegEnd;
 
 /// What an instruction that leaves its block comes to.
 #[derive(Clone, Copy)]
-pub enum Turn {
+pub enum BlockExit {
     Goes,
     Ends(LegEnd),
 }

@@ -1,7 +1,7 @@
 //! Codes with a child, and what they leave.
 
 ghost use Rattle.std.specs.Prelude.{◌≡◌, IfOk};
-ghost use Rattle.plain_words.specs.Agreement.{AreInputs};
+ghost use Rattle.block_run.specs.Agreement.{AreInputs};
 ghost use Rattle.block_run.specs.Area.{count};
 ghost use Rattle.fun_run.specs.Merging.{AreMergesOf};
 ghost use Rattle.rev_vm.specs.Starts.{run_under};

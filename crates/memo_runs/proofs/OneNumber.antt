@@ -10,7 +10,7 @@ use Rattle.revision_machine.specs.Laws.{IsDistinct}
 use Rattle.revision_machine.proofs.Ends.{unique_end}
 use Rattle.code_machine.specs.Local.{CodeRun, IsVerified, Local, at_work}
 use Rattle.code_machine.specs.Machines.{machine, IsMain, start_in}
-use Rattle.code_machine.proofs.Meeting.{counts}
+use Rattle.code_machine.proofs.MachineConditions.{counts}
 use Rattle.code_machine_laws.proofs.Mains.{main_is_one}
 use Rattle.code_memos.specs.Leaf.{Fresh, Known}
 use Rattle.code_memos.specs.Memo.{first, IsLeaf, IsEntry, IsAmong, paths_of, IsMemo, HasValid, IsReused, MemoOf, ReusedOf}

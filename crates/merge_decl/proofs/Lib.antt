@@ -1,3 +1,4 @@
+-- Proofs of merge_decl: funs and merges, and what the value of an expression is.
 pub mod Appends
 pub mod Declared
 pub mod Few

@@ -118,7 +118,8 @@ number_below (b ∷ bs) (suc k) h le =
     omega arith
 
 -- the number of a part of a short name has room for one more byte
-pub number_room : (name : Name) (i : ℕ) → AreBytes name → length name ≤ 7 → 0 < i → number (drop i name) < 72057594037927936
+pub number_room : (name : Name) (i : ℕ) → AreBytes name → length name ≤ 7 → 0 < i
+    → number (drop i name) < 72057594037927936
 number_room name i h few some =
     let l : length (drop i name) ≡ length name - i = length-drop i name in
     number_below (drop i name) 6

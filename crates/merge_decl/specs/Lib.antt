@@ -1,3 +1,4 @@
+-- Definitions of merge_decl: funs and merges, and what the value of an expression is.
 pub mod Definitions
 pub mod Evaluation
 pub mod Expands

@@ -20,7 +20,7 @@ use std::alloc::{AllocError, Global};
 
 /// A rule on funs that a program breaks, with the place of the name of the application; or want of
 /// memory, which says nothing of the program.
-#[derive(Clone, Copy, PartialEq, Eq, Debug, Drop)]
+#[derive(Clone, Copy, Drop)]
 pub enum MergeFault {
     /// No fun has this name.
     UnknownFun { at: u32 },
@@ -40,13 +40,13 @@ impl From<AllocError> for MergeFault {
 }
 
 /// A fun, by the number of its declaration.
-#[derive(Clone, Copy, PartialEq, Eq, Debug, Drop)]
+#[derive(Clone, Copy, Drop)]
 pub struct FunDef {
     pub decl: u32,
 }
 
 /// A merge, by the number of its declaration.
-#[derive(Clone, Copy, PartialEq, Eq, Debug, Drop)]
+#[derive(Clone, Copy, Drop)]
 pub struct MergeRef {
     pub decl: u32,
 }

@@ -10,4 +10,4 @@ pub mod OneLane
 pub mod RowChoices
 pub mod LevelRows
 pub mod RowWords
-pub mod Crossing
+pub mod SharedKernels

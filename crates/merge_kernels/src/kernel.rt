@@ -11,7 +11,7 @@ use crate::term::MergeDef;
 use rev_num::NumFault;
 
 /// A merge as a closure, of the joiner's, the joinee's and the root's number.
-pub type Run = Box<dyn Fn(i64, i64, i64) -> Result<i64, NumFault> + Send + Sync>;
+pub type NumberRun = Box<dyn Fn(i64, i64, i64) -> Result<i64, NumFault> + Send + Sync>;
 
 /// A merge of eight lanes as a closure: none where one of them faults.
 pub type RowRun = Box<dyn Fn([i64; 8], [i64; 8], [i64; 8]) -> Option<[i64; 8]> + Send + Sync>;
@@ -52,19 +52,19 @@ impl RowKernel {
 #[derive(Drop)]
 pub struct Kernel {
     def: MergeDef,
-    run: Run,
+    run: NumberRun,
     row: Option<RowKernel>,
-    ghost callable: { Run.IsAlwaysCallable run },
-    ghost answers: { Answers (Run.post run) (definition def) },
+    ghost callable: { NumberRun.IsAlwaysCallable run },
+    ghost answers: { Answers (NumberRun.post run) (definition def) },
     ghost same: { (r : _) → row ≡ Some r → equal (definition r.def) (definition def) ≡ true },
 }
 
 impl Kernel {
     /// A closure that answers this definition's value for all numbers, with no row. It takes no
     /// memory.
-    pub fn new(def: MergeDef, run: Run) -> Kernel
-        requires callable { Run.IsAlwaysCallable run }
-        requires answers { Answers (Run.post run) (definition def) }
+    pub fn new(def: MergeDef, run: NumberRun) -> Kernel
+        requires callable { NumberRun.IsAlwaysCallable run }
+        requires answers { Answers (NumberRun.post run) (definition def) }
         ensures def { result.def ≡ def }
         ensures row { result.row ≡ None }
     {

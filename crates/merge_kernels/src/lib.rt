@@ -17,7 +17,7 @@ mod words;
 pub use closing::closed;
 pub use equal::same;
 pub use finding::find;
-pub use kernel::{Kernel, RowKernel, RowRun, Run};
+pub use kernel::{Kernel, NumberRun, RowKernel, RowRun};
 pub use lanes::sum_lanes;
 pub use laws::kernel_laws;
 pub use plan::KernelPlan;

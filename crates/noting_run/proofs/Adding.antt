@@ -5,7 +5,7 @@ use Rattle.std.specs.Prelude.{◌||◌, nat_eq, is_some}
 use Rattle.version_map.specs.Deltas.{at}
 pub use Rattle.code_reads.proofs.Legs.{leg_reads_of_steps}
 use Rattle.code_reads.specs.Reads.{Read}
-use Rattle.noting_run.specs.declared.notes.Noted.{Noted}
+use Rattle.noting_run.specs.declared.notes.ReadMarks.{ReadMarks}
 use Rattle.noting_run.specs.Marks.{Mark, location, input, count, mark_of, marks_of, has_location, has_input, has_count, HasMarked}
 
 or_three : (a b c : Bool) → (b || (a || c)) ≡ ((a || b) || c)
@@ -39,11 +39,11 @@ count_more (location m ∷ ms) ns = count_more ms ns
 count_more (input m ∷ ms) ns = count_more ms ns
 count_more (count ∷ ms) ns = refl
 
-pub none_marked : (x : Noted) → HasMarked x x []
+pub none_marked : (x : ReadMarks) → HasMarked x x []
 none_marked x =
     record { locations_are = λ n. refl; inputs_are = λ n. refl; count_is = refl; size = refl; positions = refl }
 
-pub marked_more : (x y z : Noted) (ms ns : List Mark) → HasMarked x y ms → HasMarked y z ns → HasMarked x z (ms ++ ns)
+pub marked_more : (x y z : ReadMarks) (ms ns : List Mark) → HasMarked x y ms → HasMarked y z ns → HasMarked x z (ms ++ ns)
 marked_more x y z ms ns h k = record {
   locations_are = λ n.
       k.locations_are n ∙ ap (λ v. has_location ns n || v) (h.locations_are n)

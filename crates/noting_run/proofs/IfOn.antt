@@ -1,6 +1,6 @@
 -- Notes that may be off.
 use Rattle.std.proofs.Common.{◌≡◌, ◌∙◌, ℕ, ℤ, true, List, [], ◌++◌, refl, sym, ap, subst}
-use Rattle.noting_run.specs.declared.notes.Noted.{Noted}
+use Rattle.noting_run.specs.declared.notes.ReadMarks.{ReadMarks}
 use Rattle.noting_run.specs.declared.notes.Notes.{Notes}
 use Rattle.noting_run.specs.declared.notes.Notes.TheVariants as notes
 use Rattle.noting_run.specs.Marks.{Mark, HasMarked}
@@ -23,18 +23,18 @@ marked_more_if_on (notes.On a) (notes.On b) notes.Off ms ns h k = absurd k
 marked_more_if_on (notes.On a) (notes.On b) (notes.On c) ms ns h k = marked_more a b c ms ns h k
 
 -- what is given back has the marks
-pub marked_back : (old back : Noted) (x y : Notes) (ms : List Mark) → x ≡ notes.On old
-    → ((own : Noted) → y ≡ notes.On own → back ≡ own) → HasMarkedIfOn x y ms → HasMarked old back ms
+pub marked_back : (old back : ReadMarks) (x y : Notes) (ms : List Mark) → x ≡ notes.On old
+    → ((own : ReadMarks) → y ≡ notes.On own → back ≡ own) → HasMarkedIfOn x y ms → HasMarked old back ms
 marked_back old back x y ms e f h = by y f (subst (λ z. HasMarkedIfOn z y ms) e h)
   where
-    by : (y : Notes) → ((own : Noted) → y ≡ notes.On own → back ≡ own) → HasMarkedIfOn (notes.On old) y ms
+    by : (y : Notes) → ((own : ReadMarks) → y ≡ notes.On own → back ≡ own) → HasMarkedIfOn (notes.On old) y ms
         → HasMarked old back ms
     by notes.Off f h = absurd h
     by (notes.On own) f h = subst (λ b. HasMarked old b ms) (sym (f own refl)) h
 
 -- ---- whether they are on
 
-pub on_of : (x : Notes) (a : Noted) → x ≡ notes.On a → is_on x ≡ true
+pub on_of : (x : Notes) (a : ReadMarks) → x ≡ notes.On a → is_on x ≡ true
 on_of x a e = ap is_on e
 
 -- marks leave them on, or off
@@ -46,11 +46,11 @@ on_still (notes.On a) (notes.On b) ms h = refl
 
 -- ---- places
 
-pub places_in : (size : ℕ) (inputs : List ℤ) (x : Notes) (a : Noted) → x ≡ notes.On a → HasPlacesIfOn size inputs x
+pub places_in : (size : ℕ) (inputs : List ℤ) (x : Notes) (a : ReadMarks) → x ≡ notes.On a → HasPlacesIfOn size inputs x
     → HasPlaces size inputs a
 places_in size inputs x a e h = subst (HasPlacesIfOn size inputs) e h
 
-pub places_of : (size : ℕ) (inputs : List ℤ) (x : Notes) (a : Noted) → x ≡ notes.On a → HasPlaces size inputs a
+pub places_of : (size : ℕ) (inputs : List ℤ) (x : Notes) (a : ReadMarks) → x ≡ notes.On a → HasPlaces size inputs a
     → HasPlacesIfOn size inputs x
 places_of size inputs x a e h = subst (HasPlacesIfOn size inputs) (sym e) h
 

@@ -10,10 +10,10 @@ use Rattle.rev_code.specs.declared.code.Instr.TheVariants as i
 use Rattle.rev_code.specs.State.{Setting, State}
 use Rattle.rev_code.specs.Step as s
 use Rattle.rev_code.specs.Step.{goes, stuck, act, act_in, act_at, step, Steps}
-use Rattle.code_soundness.specs.Whole.{IsAccepted, notes_of}
-use Rattle.plain_words.specs.Plain.{Run, plain}
-use Rattle.plain_words.specs.Agreement.{Agrees, AreInputs, PushesInt}
-use Rattle.plain_words.proofs.Rows.{rows}
+use Rattle.code_soundness.specs.AcceptedCode.{IsAccepted, notes_of}
+use Rattle.block_run.specs.Plain.{Run, plain}
+use Rattle.block_run.specs.Agreement.{Agrees, AreInputs, PushesInt}
+use Rattle.block_run.proofs.Rows.{rows}
 use Rattle.code_reads.specs.Reads.{act_reads, reads_at, reads_in, step_reads, reads_of}
 use Rattle.block_run.specs.declared.registers.Registers.{Registers}
 use Rattle.block_run.specs.declared.registers.Stop.{Stop}

@@ -1,6 +1,6 @@
 -- What an instruction came to, by the stop that is answered.
 use Rattle.std.proofs.Common.{◌≡◌, ℕ, sym, subst}
-use Rattle.plain_words.specs.Plain.{Plain, Run}
+use Rattle.block_run.specs.Plain.{Plain, Run}
 use Rattle.block_run.specs.declared.registers.Stop.{Stop}
 use Rattle.block_run.specs.Area.{Does}
 

@@ -10,10 +10,10 @@ use Rattle.rev_code.specs.declared.code.Instr.{Instr}
 use Rattle.rev_code.specs.declared.code.Instr.TheVariants as i
 use Rattle.rev_code.specs.Variables.{Place, scalar, array, cell_at}
 use Rattle.version_map.specs.Deltas.{at, locations}
-use Rattle.plain_words.specs.Plain.{Run}
+use Rattle.block_run.specs.Plain.{Run}
 use Rattle.code_reads.specs.Reads as reads
 use Rattle.code_reads.specs.Reads.{Read}
-use Rattle.noting_run.specs.declared.notes.Noted.{Noted}
+use Rattle.noting_run.specs.declared.notes.ReadMarks.{ReadMarks}
 
 pub data Mark : Type 0 where
   location : ℕ → Mark
@@ -85,7 +85,7 @@ has_count (location m ∷ ms) = has_count ms
 has_count (input m ∷ ms) = has_count ms
 has_count (count ∷ ms) = true
 
-pub record HasMarked (old new : Noted) (ms : List Mark) : Type 0 where
+pub record HasMarked (old new : ReadMarks) (ms : List Mark) : Type 0 where
   pub locations_are : (n : ℕ) → is_some (at new.locations n) ≡ (has_location ms n || is_some (at old.locations n))
   pub inputs_are : (n : ℕ) → is_some (at new.inputs n) ≡ (has_input ms n || is_some (at old.inputs n))
   pub count_is : new.count ≡ (has_count ms || old.count)

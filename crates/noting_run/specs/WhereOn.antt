@@ -5,7 +5,7 @@
 --   HasMarkedIfOn   notes that are on have these marks more, and no others
 use Rattle.std.specs.Prelude.{ℕ, ◌≡◌, ◌<◌, ◌^◌, ℤ, Bool, true, false, List, length}
 use Rattle.version_map.specs.Deltas.{locations}
-use Rattle.noting_run.specs.declared.notes.Noted.{Noted}
+use Rattle.noting_run.specs.declared.notes.ReadMarks.{ReadMarks}
 use Rattle.noting_run.specs.declared.notes.Notes.{Notes}
 use Rattle.noting_run.specs.declared.notes.Notes.TheVariants as notes
 use Rattle.noting_run.specs.Marks.{Mark, HasMarked}
@@ -15,7 +15,7 @@ is_on notes.Off = false
 is_on (notes.On noted) = true
 
 -- of so many locations, and of this input, whose positions are numbers of 32 bits
-pub record HasPlaces (size : ℕ) (inputs : List ℤ) (noted : Noted) : Type 0 where
+pub record HasPlaces (size : ℕ) (inputs : List ℤ) (noted : ReadMarks) : Type 0 where
   pub of_locations : locations noted.locations ≡ size
   pub of_positions : locations noted.inputs ≡ length inputs
   pub few : length inputs < 2 ^ 32

@@ -2,15 +2,15 @@
 
 ghost use Rattle.std.specs.Prelude.{◌≡◌, ◌<◌, ◌^◌, ℕ, Some, length, slice_get, take};
 ghost use Rattle.rev_code.specs.State.{State};
-ghost use Rattle.code_soundness.specs.Whole.{notes_of, IsAccepted};
-ghost use Rattle.plain_words.specs.Agreement.{AreInputs};
+ghost use Rattle.code_soundness.specs.AcceptedCode.{notes_of, IsAccepted};
+ghost use Rattle.block_run.specs.Agreement.{AreInputs};
 ghost use Rattle.version_map.specs.Deltas.{at, locations};
 ghost use Rattle.version_map.specs.Overlay.{under};
 ghost use Rattle.block_run.specs.Area.{count, IsTable};
 ghost use Rattle.block_run.specs.Standing.{Here, IsRoomy, Mode};
 ghost use Rattle.noting_run.specs.Runs.{EndsNoting};
 
-use crate::notes::{Noted, Notes};
+use crate::notes::{Notes, ReadMarks};
 use crate::reading::act_noting;
 use block_run::{Memory, Registers, Stop, Variable};
 use rev_code::{Code, CodeBlock, Instr};
@@ -36,7 +36,7 @@ pub fn run_block_noting<P: Snapshot>(
     memory: &mut Memory<P>,
     words: &mut [u64],
     registers: &mut Registers,
-    noted: &mut Noted,
+    noted: &mut ReadMarks,
 ) -> Stop
     requires accepted { IsAccepted code.now (notes_of code.now) }
     requires table { IsTable code.now.vars table.now }

@@ -2,8 +2,8 @@
 
 ghost use Rattle.std.specs.Prelude.{◌≡◌, ◌<◌, ◌^◌, ℕ, Some, length, slice_get, take};
 ghost use Rattle.rev_code.specs.State.{State};
-ghost use Rattle.code_soundness.specs.Whole.{notes_of, IsAccepted};
-ghost use Rattle.plain_words.specs.Agreement.{AreInputs};
+ghost use Rattle.code_soundness.specs.AcceptedCode.{notes_of, IsAccepted};
+ghost use Rattle.block_run.specs.Agreement.{AreInputs};
 ghost use Rattle.version_map.specs.Deltas.{at};
 ghost use Rattle.version_map.specs.Overlay.{under};
 ghost use Rattle.block_run.specs.Area.{count, IsTable};

@@ -12,7 +12,7 @@ mod reading;
 
 pub use leg_block::run_leg_block;
 pub use marking::note;
-pub use notes::{Noted, Notes};
+pub use notes::{Notes, ReadMarks};
 
 /// A snapshot and an input have what was read of others exactly where they agree with these on what
 /// is noted.

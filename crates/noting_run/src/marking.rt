@@ -10,14 +10,14 @@ ghost use Rattle.noting_run.specs.Marks as marks;
 ghost use Rattle.noting_run.specs.Marks.{HasMarked, cell_marks, if_first, place_marks};
 ghost use Rattle.noting_run.specs.Marks.{plain_marks, scalar_marks};
 
-use crate::notes::Noted;
+use crate::notes::ReadMarks;
 use block_run::{Memory, Registers, Variable};
 use rev_code::{Code, CodeBlock, Instr};
 use version_map::Snapshot;
 
 /// Notes a location that is read, unless the revision has written it.
 #[inline(always)]
-fn note_location<P: Snapshot>(memory: &Memory<P>, location: u32, noted: &mut Noted)
+fn note_location<P: Snapshot>(memory: &Memory<P>, location: u32, noted: &mut ReadMarks)
     requires within { location < P.size memory.now.snapshot }
     requires size { locations noted.old.locations ≡ P.size memory.now.snapshot }
     ensures { HasMarked noted.old noted.new
@@ -31,7 +31,7 @@ fn note_location<P: Snapshot>(memory: &Memory<P>, location: u32, noted: &mut Not
 
 /// Notes a position of the input.
 #[inline(always)]
-fn note_input(index: u32, noted: &mut Noted)
+fn note_input(index: u32, noted: &mut ReadMarks)
     requires within { index < locations noted.old.inputs }
     ensures { HasMarked noted.old noted.new (marks.input index ∷ []) }
 {
@@ -40,7 +40,7 @@ fn note_input(index: u32, noted: &mut Noted)
 
 /// Notes the count of inputs.
 #[inline(always)]
-fn note_count(noted: &mut Noted)
+fn note_count(noted: &mut ReadMarks)
     ensures { HasMarked noted.old noted.new (marks.count ∷ []) }
 {
     noted.count = true;
@@ -48,7 +48,7 @@ fn note_count(noted: &mut Noted)
 
 /// Notes a position of the input that is read, or the count where it is out of range.
 #[inline(always)]
-fn note_position(inputs: &[i64], index: u64, noted: &mut Noted)
+fn note_position(inputs: &[i64], index: u64, noted: &mut ReadMarks)
     requires few { length inputs.now < 2 ^ 32 }
     requires positions { locations noted.old.inputs ≡ length inputs.now }
     ensures { HasMarked noted.old noted.new (marks.index_marks inputs.now (int_of index)) }
@@ -86,7 +86,7 @@ fn cell(t: Variable, index: u64) -> Option<u32>
 
 /// Notes a cell that is read, where the index is inside.
 #[inline(always)]
-fn note_cell<P: Snapshot>(memory: &Memory<P>, t: Variable, index: u64, noted: &mut Noted)
+fn note_cell<P: Snapshot>(memory: &Memory<P>, t: Variable, index: u64, noted: &mut ReadMarks)
     requires within { t.first + t.cells ≤ P.size memory.now.snapshot }
     requires few { t.first + t.cells < 2 ^ 32 }
     requires size { locations noted.old.locations ≡ P.size memory.now.snapshot }
@@ -122,7 +122,13 @@ fn array_at(code: &Code, table: &[Variable], v: u16) -> Variable
 
 /// Notes a scalar that is read.
 #[inline(always)]
-fn note_scalar<P: Snapshot>(code: &Code, memory: &Memory<P>, t: Variable, v: u16, noted: &mut Noted)
+fn note_scalar<P: Snapshot>(
+    code: &Code,
+    memory: &Memory<P>,
+    t: Variable,
+    v: u16,
+    noted: &mut ReadMarks,
+)
     requires variable { IsVariable (scalar code.now.vars v) t (P.size memory.now.snapshot) }
     requires size { locations noted.old.locations ≡ P.size memory.now.snapshot }
     ensures { HasMarked noted.old noted.new
@@ -141,7 +147,7 @@ fn note_element<P: Snapshot>(
     r: &Registers,
     t: Variable,
     v: u16,
-    noted: &mut Noted,
+    noted: &mut ReadMarks,
 )
     requires placed { IsPlaced b.now r.now (length words.now) 1 }
     requires variable { IsVariable (array code.now.vars v) t (P.size memory.now.snapshot) }
@@ -164,7 +170,7 @@ pub fn note<P: Snapshot>(
     words: &[u64],
     r: &Registers,
     x: &Instr,
-    noted: &mut Noted,
+    noted: &mut ReadMarks,
 )
     requires table { IsTable code.now.vars table.now }
     requires size { P.size memory.now.snapshot ≡ count code.now.vars }

@@ -1,8 +1,8 @@
 //! One instruction, with notes of what it reads.
 
 ghost use Rattle.std.specs.Prelude.{◌≡◌, ◌+◌, ◌<◌, ◌≤◌, ◌^◌, length};
-ghost use Rattle.plain_words.specs.Plain as p;
-ghost use Rattle.plain_words.specs.Agreement.{PushesInt};
+ghost use Rattle.block_run.specs.Plain as p;
+ghost use Rattle.block_run.specs.Agreement.{PushesInt};
 ghost use Rattle.version_map.specs.Deltas.{at, locations};
 ghost use Rattle.version_map.specs.Overlay.{under};
 ghost use Rattle.block_run.specs.Area.{count, pushes, run_of, taken, Does, IsOperand, IsPlaced};
@@ -11,7 +11,7 @@ ghost use Rattle.block_run.specs.Remembering.{Kept, Wrote};
 ghost use Rattle.noting_run.specs.Marks.{HasMarked, plain_marks};
 
 use crate::marking::note;
-use crate::notes::Noted;
+use crate::notes::ReadMarks;
 use block_run::{Memory, Registers, Stop, Variable, act};
 use rev_code::{Code, CodeBlock, Instr};
 use version_map::Snapshot;
@@ -64,7 +64,7 @@ fn note_and_act<P: Snapshot>(
     words: &mut [u64],
     r: &mut Registers,
     x: &Instr,
-    noted: &mut Noted,
+    noted: &mut ReadMarks,
 ) -> Stop
     requires table { IsTable code.now.vars table.now }
     requires size { P.size memory.old.snapshot ≡ count code.now.vars }
@@ -109,7 +109,7 @@ pub fn act_noting<P: Snapshot>(
     words: &mut [u64],
     r: &mut Registers,
     x: &Instr,
-    noted: &mut Noted,
+    noted: &mut ReadMarks,
 ) -> Stop
     requires table { IsTable code.now.vars table.now }
     requires size { P.size memory.old.snapshot ≡ count code.now.vars }

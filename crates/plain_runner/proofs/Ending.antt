@@ -3,7 +3,7 @@ use Rattle.std.proofs.Common.{◌≡◌, ℕ, Bool, true, false, List, [], Some,
 use Rattle.rev_num.specs.declared.outcome.Outcome.{Outcome}
 use Rattle.revision_machine.specs.Machine.{Global, Live}
 use Rattle.revision_machine.specs.Laws.{IsDistinct}
-use Rattle.revision_machine.specs.declared.state.Revision.{Revision}
+use Rattle.revision_machine.specs.declared.state.RevisionRow.{RevisionRow}
 use Rattle.revision_machine.specs.RevisionList.{paths, entry_with, globe}
 use Rattle.revision_machine.specs.ListStep.{IsAt}
 use Rattle.revision_machine.specs.StepOutcomes.{IsEnd}
@@ -30,7 +30,7 @@ module _ (s : Setting) (fuel : ℕ) (g : Global Local) (end : IsEnd (calculus s)
       let one = one_outcome s fuel in let clash : None ≡ Some one.is = e ∙ one.has.each end.by g end.complete in cc
 
 -- with `main` at a place of the list, its local state decides
-pub by_main : (s : Setting) (ss : List (Revision Local)) (i : ℕ) (x : Revision Local) → IsDistinct (paths ss)
+pub by_main : (s : Setting) (ss : List (RevisionRow Local)) (i : ℕ) (x : RevisionRow Local) → IsDistinct (paths ss)
     → IsAt ss i [] → Reads ss i x → main_end s x.state ≡ outcome s (Live (globe ss))
 by_main s ss i x distinct at r = sym (ap (main_outcome s) (shown_at ss i [] x distinct at r) ∙ either x.joined)
   where

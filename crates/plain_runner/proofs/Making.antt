@@ -8,7 +8,7 @@ use Rattle.revision_machine.specs.Machine.{Global, Twice, Live}
 use Rattle.revision_machine.specs.Laws.{local_of, IsDistinct}
 use Rattle.revision_machine.specs.RevisionList.{paths, entry_with, entry_of, globe}
 use Rattle.revision_machine.specs.StepOutcomes.{IsEnd}
-use Rattle.revision_machine.specs.declared.state.Revision.{Revision}
+use Rattle.revision_machine.specs.declared.state.RevisionRow.{RevisionRow}
 use Rattle.revision_calculus.specs.Program.{Setting}
 use Rattle.revision_calculus.specs.State.{Local}
 use Rattle.revision_calculus.specs.Calculus.{main, calculus}
@@ -17,17 +17,17 @@ use Rattle.trace_diagram.specs.declared.diagram.Trace.{Trace}
 use Rattle.audit_rules.specs.Parts.{places, part_of}
 use Rattle.audit_rules.specs.Traces.{part_at, paths_of, IsPartOf, IsTrace}
 use Rattle.audit_rules.specs.Traced.{IsTraceAt, HasTrace}
-use Rattle.trace_parts.specs.Made.{part_by, is_sooner}
+use Rattle.trace_parts.specs.PartOfRevision.{part_by, is_sooner}
 use Rattle.plain_runner.specs.Made.{parts_by}
 use Rattle.trace_parts.proofs.InOrder.{AreOnce, distinct_once, once_moved, same_at, in_order}
 
-pub parts_append : (ps : List (List ℕ)) (xs : List (Revision Local)) (x : Revision Local)
+pub parts_append : (ps : List (List ℕ)) (xs : List (RevisionRow Local)) (x : RevisionRow Local)
     → parts_by ps (xs ++ x ∷ []) ≡ parts_by ps xs ++ parts_by ps (x ∷ [])
 parts_append ps [] x = refl
 parts_append ps (y ∷ xs) x = ap (λ l. parts_by ps (y ∷ []) ++ l) (parts_append ps xs x)
 
 -- one revision less to go
-pub popped_more : (ls : List (List ℕ)) (all left rest : List (Revision Local)) (x : Revision Local) (q : Part)
+pub popped_more : (ls : List (List ℕ)) (all left rest : List (RevisionRow Local)) (x : RevisionRow Local) (q : Part)
     (out new : List Part)
     → left ≡ rest ++ x ∷ [] → q ≡ part_by ls x.path x.state → new ≡ out ++ q ∷ []
     → IsPermutation (parts_by ls all) (out ++ parts_by ls left)
@@ -40,12 +40,12 @@ popped_more ls all left rest x q out new is made pushed so_far =
     (subst (λ l. IsPermutation l (p ∷ parts_by ls rest)) (sym parts) (IsPermutation-to_front (parts_by ls rest) p)))
 
 module _ (s : Setting) where
-  same_paths : (xs : List (Revision Local)) → paths_of (parts_by (places s) xs) ≡ paths xs
+  same_paths : (xs : List (RevisionRow Local)) → paths_of (parts_by (places s) xs) ≡ paths xs
   same_paths [] = refl
   same_paths (x ∷ xs) = ap (λ l. x.path ∷ l) (same_paths xs)
 
   -- the part of a revision that is listed, and none of another
-  is_part : (xs : List (Revision Local)) (r : Path) → IsPartOf s r (part_at (parts_by (places s) xs) r) (globe xs r)
+  is_part : (xs : List (RevisionRow Local)) (r : Path) → IsPartOf s r (part_at (parts_by (places s) xs) r) (globe xs r)
   is_part [] r = tt
   is_part (x ∷ xs) r = go (same x.path r) refl (is_part xs r)
     where
@@ -59,7 +59,7 @@ module _ (s : Setting) where
       go true is rest = λ i. part_of s (same-eq x.path r is i) (sym (local x.joined) i)
       go false is rest = rest
 
-  pub is_trace : (xs : List (Revision Local)) (ps qs : List Part) → IsDistinct (paths xs)
+  pub is_trace : (xs : List (RevisionRow Local)) (ps qs : List Part) → IsDistinct (paths xs)
       → IsPermutation (parts_by (places s) xs) ps → IsPermutation ps qs → IsSortedBy is_sooner qs
       → IsTrace s (Live (globe xs)) qs
   is_trace xs ps qs distinct first then_so up =
@@ -88,7 +88,7 @@ module _ (s : Setting) where
   }
 
 -- with the parts in any order, put into post-order
-pub trace_made : (s t : Setting) (fuel : ℕ) (ls : List (List ℕ)) (xs : List (Revision Local)) (ps qs : List Part)
+pub trace_made : (s t : Setting) (fuel : ℕ) (ls : List (List ℕ)) (xs : List (RevisionRow Local)) (ps qs : List Part)
     → s ≡ t → ls ≡ places t → IsDistinct (paths xs) → IsPermutation (parts_by ls xs) ps → IsPermutation ps qs
     → IsSortedBy is_sooner qs
     → IsEnd (calculus s) (main s fuel) (Live (globe xs)) → HasTrace t fuel (Some (record { parts = qs }))

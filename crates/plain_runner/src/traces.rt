@@ -10,7 +10,7 @@ ghost use Rattle.plain_runner.specs.Made.{parts_by};
 use crate::language::PlainLanguage;
 use rev_num::{Bytes, Items};
 use rev_types::Typed;
-use revision_machine::{GlobalState, Revision};
+use revision_machine::{GlobalState, RevisionRow};
 use revision_steps::Local;
 use std::alloc::{AllocError, Global};
 use trace_diagram::{Part, Trace};
@@ -20,7 +20,7 @@ use trace_parts::{part_of, places_of, put_in_order};
 fn parts_of<'a>(
     alloc: Global,
     places: &[Bytes],
-    revisions: Vec<Revision<Local<'a>>>,
+    revisions: Vec<RevisionRow<Local<'a>>>,
 ) -> Result<Vec<Part>, AllocError>
     ensures { IfOk result
         (λ v. IsPermutation (parts_by places.now revisions.entry.items) v.items) }

@@ -10,7 +10,7 @@ use Rattle.revision_machine.specs.Simulation.{stay, more}
 use Rattle.revision_calculus.specs.Program.{Setting}
 use Rattle.revision_calculus.specs.State.{Phase, running, joining, done, trapped, Local}
 use Rattle.revision_calculus.specs.Step.{next}
-use Rattle.revision_calculus.specs.Held.{weight}
+use Rattle.revision_calculus.specs.HandlesHeld.{weight}
 use Rattle.revision_calculus.specs.Kinded.{IsAccepted, IsKinded}
 use Rattle.revision_calculus.proofs.Meets.{counts, spends_weight}
 use Rattle.revision_calculus.proofs.StepKinds.{kind_kept}

@@ -21,7 +21,7 @@ pub mod Legs
 pub mod Through
 pub mod Simulating
 pub mod Agreeing
-pub mod Weaker
+pub mod WeakerRelations
 pub mod Ends
 pub mod Schedules
 pub mod Outcomes

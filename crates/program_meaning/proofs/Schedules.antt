@@ -12,7 +12,7 @@ use Rattle.revision_machine.proofs.Legs.{leg_law}
 use Rattle.revision_calculus.specs.Program.{Setting}
 use Rattle.revision_calculus.specs.State.{Local}
 use Rattle.revision_calculus.specs.Calculus.{main, calculus}
-use Rattle.revision_calculus.specs.Held.{Holds}
+use Rattle.revision_calculus.specs.HandlesHeld.{Holds}
 use Rattle.revision_calculus.specs.Kinded.{IsAccepted}
 use Rattle.revision_calculus.proofs.Meets.{counts, handles, main_holds_none}
 use Rattle.revision_calculus.proofs.StepKinds.{main_kinded}
@@ -23,8 +23,8 @@ use Rattle.code_machine.specs.Local as code
 use Rattle.code_machine.specs.Local.{IsVerified}
 use Rattle.code_machine.specs.Machines.{machine, numbered, IsMain, start_in}
 use Rattle.code_machine.specs.Outcome as code_outcome
-use Rattle.code_machine.proofs.Meeting.{named_counts}
-use Rattle.code_machine.proofs.Meeting as meeting
+use Rattle.code_machine.proofs.MachineConditions.{named_counts}
+use Rattle.code_machine.proofs.MachineConditions as meeting
 use Rattle.code_machine.proofs.Numbering.{first_numbered}
 use Rattle.code_machine.proofs.Outcomes.{ended, world_outcome, one_outcome}
 use Rattle.program_meaning.specs.Related.{run_of, works}
@@ -32,7 +32,7 @@ use Rattle.program_meaning.specs.Relation.{IsRelated, IsRelatedBy}
 use Rattle.program_meaning.specs.Agreement.{AgreesBy}
 use Rattle.program_meaning.proofs.Simulating.{code_simulated, numbers_simulated}
 use Rattle.program_meaning.proofs.Agreeing.{related_agrees}
-use Rattle.program_meaning.proofs.Weaker.{schedules_weaker, legs_law_weaker, ends_weaker}
+use Rattle.program_meaning.proofs.WeakerRelations.{schedules_weaker, legs_law_weaker, ends_weaker}
 use Rattle.program_meaning.proofs.Ends.{outcomes_same}
 
 module _ (s : Setting) (well : IsAccepted s.program) (ok : IsVerified (run_of s)) (n : ℕ) (m : IsMain (run_of s) n)

@@ -1,3 +1,4 @@
+-- Proofs of program_texts: the text of `load` is a program, and no program has a line that begins a trace.
 pub mod Chunks
 pub mod Cuts
 pub mod Lines
@@ -8,3 +9,28 @@ pub mod LoadRules
 pub mod LoadTrees
 pub mod Parsing
 pub mod Sides
+pub mod Deciding
+pub mod Pairing
+pub mod Numbers
+pub mod Paths
+pub mod Values
+pub mod PlaceNames
+pub mod Events
+pub mod Ends
+pub mod Changes
+pub mod NextLines
+pub mod Texts
+pub mod OneTrace
+pub mod Carried
+pub mod OneVerdict
+pub mod Expressions
+pub mod Programs
+pub mod WrittenValues
+pub mod WrittenTexts
+pub mod Places
+pub mod States
+pub mod Steps
+pub mod Joins
+pub mod Starts
+pub mod Runs
+pub mod Traces

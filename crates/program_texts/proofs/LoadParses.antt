@@ -8,9 +8,9 @@ use Rattle.rev_syntax.specs.Trees.{PlacedName, Declaration, ProgramTree, Stateme
 use Rattle.rev_syntax.specs.Tokens.{array_size, tokens_of}
 use Rattle.rev_syntax.specs.View.{statements_of}
 use Rattle.rev_syntax.specs.declared.token.Token.{Token}
-use Rattle.token_grammar.specs.Form.{both}
-use Rattle.token_grammar.specs.Outcome.{Outcome, Read, and_then}
-use Rattle.token_grammar.specs.Reader.{begins, read, below}
+use Rattle.rev_expressions.specs.Form.{both}
+use Rattle.rev_expressions.specs.Outcome.{Outcome, Read, and_then}
+use Rattle.rev_expressions.specs.Reader.{begins, read, below}
 use Rattle.rev_syntax.specs.declared.token.Fixed.TheVariants as s
 use Rattle.rev_expressions.specs.Grammar.{place as place_of}
 use Rattle.rev_expressions.specs.Grammar.{alphabet, Rule, sign, rank_sign, bracketed, choice, name, name_tail, primary, unary, product, sum, comparison, conjunction, expr, parens, index, arguments, parts}

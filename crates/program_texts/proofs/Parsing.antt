@@ -2,8 +2,8 @@
 use Rattle.std.proofs.Common.{◌≡◌, ℕ, zero, suc, ◌+◌, ◌≤◌, true, false, List, [], ◌∷◌, ◌++◌, length, sym, ap, ◌∙◌, arith, append_assoc, append-nil}
 use Rattle.std.specs.Prelude.{cond}
 use Rattle.rev_syntax.specs.declared.token.Token.{Token}
-use Rattle.token_grammar.specs.Outcome.{Read, and_then}
-use Rattle.token_grammar.specs.Reader.{begins, read, repeat}
+use Rattle.rev_expressions.specs.Outcome.{Read, and_then}
+use Rattle.rev_expressions.specs.Reader.{begins, read, repeat}
 use Rattle.rev_expressions.specs.Grammar.{alphabet, Rule, never, all}
 use Rattle.rev_expressions.specs.Parse.{parse}
 

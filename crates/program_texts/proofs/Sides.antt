@@ -5,10 +5,10 @@ use Rattle.std.proofs.Common.{◌≡◌, ℕ, zero, suc, Bool, true, false, not,
 use Rattle.std.proofs.lemmas.Bool.{and_parts, or_left, or_right}
 use Rattle.rev_syntax.specs.declared.token.Token.{Token}
 use Rattle.rev_syntax.specs.Trees.{ProgramTree}
-use Rattle.token_grammar.specs.Form.{nothing, token, level, both, either, many, Opened, Many, Lang, Derives, Nested, AnyNested}
-use Rattle.token_grammar.specs.Reader.{nullable}
-use Rattle.token_grammar.specs.Outcome.{left}
-use Rattle.token_grammar.proofs.Words.{null_sound}
+use Rattle.rev_expressions.specs.Form.{nothing, token, level, both, either, many, Opened, Many, Lang, Derives, Nested, AnyNested}
+use Rattle.rev_expressions.specs.Reader.{nullable}
+use Rattle.rev_expressions.specs.Outcome.{left}
+use Rattle.rev_expressions.proofs.Words.{null_sound}
 use Rattle.rev_expressions.specs.Classes.{Class, class_of, is_same}
 use Rattle.rev_expressions.specs.Classes as class
 use Rattle.rev_expressions.specs.Grammar.{alphabet, Rule, Inner, Value, Operand, Parens, Index, Arguments, Parts, Body, Params, Names, Cells, rank_sign, bracketed, choice, name, name_tail, primary, unary, product, sum, comparison, conjunction, expr, parens, index, arguments, parts}

@@ -4,6 +4,14 @@
 
 ghost use Rattle.program_texts.specs.Laws.{LoadMakesPrograms, NoProgramBeginsATrace};
 
+mod forms;
+mod readings;
+mod verdicts;
+
+pub use forms::{form_law, written_law};
+pub use readings::reading_law;
+pub use verdicts::text_verdict_laws;
+
 /// For each seed and each size in range the text that `load` makes is a program: it has tokens,
 /// they are one tree, and the tree keeps the rules on funs and is well typed.
 pub fn load_law()

@@ -5,7 +5,7 @@ use Rattle.revision_calculus.specs.Kinded.{IsAccepted}
 use Rattle.revision_state.specs.Views.{given}
 use Rattle.revision_state.specs.declared.setting.Setting.{Setting}
 use Rattle.audit_rules.specs.Parts.{places}
-use Rattle.audit_rules.proofs.Meets.{places_length}
+use Rattle.audit_rules.proofs.CalculusMeets.{places_length}
 
 pub accepted : (t : Setting) → IsAccepted (given t).program
 accepted t = record {

@@ -22,7 +22,7 @@ use Rattle.trace_diagram.specs.declared.diagram.TraceEvent.TheVariants as event
 use Rattle.audit_rules.specs.Audited.{JoinedEarlier}
 use Rattle.audit_rules.specs.Parts.{calculus_parts, joins_of}
 use Rattle.audit_rules.specs.Traces.{InPostOrder, part_at, paths_of}
-use Rattle.audit_rules.proofs.Own.{in_front, in_last, in_one_more, none_some}
+use Rattle.audit_rules.proofs.OneOwnRun.{in_front, in_last, in_one_more, none_some}
 use Rattle.rev_audit.specs.Tables.{IsSetOf, Marks, lists, joiner_from}
 
 -- ---- parts in post-order

@@ -13,7 +13,7 @@ use Rattle.trace_diagram.specs.declared.diagram.Part.{Part}
 use Rattle.audit_rules.specs.Audited.{Computed, Alone, by_move, by_fork, by_join, Passes, at_first, then_by, Computes, ends, at_twice, at_missing, of_fork}
 use Rattle.audit_rules.specs.Parts.{calculus_parts}
 use Rattle.audit_rules.specs.Traces.{part_at}
-use Rattle.audit_rules.proofs.Own.{none_some, move_fork, fork_join, fork_end, same_fork, one_step, step_goes, step_takes, Headed, stands, steps, headed, computes_since}
+use Rattle.audit_rules.proofs.OneOwnRun.{none_some, move_fork, fork_join, fork_end, same_fork, one_step, step_goes, step_takes, Headed, stands, steps, headed, computes_since}
 use Rattle.rev_audit.specs.Own as own
 use Rattle.rev_audit.specs.Own.{BeginsAt, Goes, Stops, ComesTo}
 

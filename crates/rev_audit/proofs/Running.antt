@@ -8,7 +8,7 @@ use Rattle.revision_calculus.specs.State.{Local}
 use Rattle.revision_calculus.specs.Step.{next}
 use Rattle.revision_calculus.specs.Calculus.{main, calculus}
 use Rattle.revision_calculus.specs.Kinded.{IsAccepted}
-use Rattle.revision_calculus.specs.Held.{weight}
+use Rattle.revision_calculus.specs.HandlesHeld.{weight}
 use Rattle.revision_calculus.proofs.Events.{joins_phase}
 use Rattle.revision_calculus.proofs.Meets.{counts, spends_weight}
 use Rattle.revision_state.specs.Phases.{awaited}
@@ -19,12 +19,12 @@ use Rattle.trace_diagram.specs.declared.diagram.Part.{Part}
 use Rattle.audit_rules.specs.Audited.{Computed, made, joined_twice, missing, taken}
 use Rattle.audit_rules.specs.Parts.{OwnFits, calculus_parts, joined_by, part_of, places, takes}
 use Rattle.audit_rules.specs.Traces.{part_at, paths_of}
-use Rattle.audit_rules.proofs.Meets.{IsFit, tells}
-use Rattle.audit_rules.proofs.Own.{begins_none, begins_one, none_some}
+use Rattle.audit_rules.proofs.CalculusMeets.{IsFit, tells}
+use Rattle.audit_rules.proofs.OneOwnRun.{begins_none, begins_one, none_some}
 use Rattle.audit_rules.proofs.OwnRuns.{own_runs_fit}
-use Rattle.audit_rules.proofs.Total.{left, left_gone}
-use Rattle.audit_rules.proofs.Traced.{covers}
-use Rattle.trace_parts.specs.Made.{part_by}
+use Rattle.audit_rules.proofs.PartsExist.{left, left_gone}
+use Rattle.audit_rules.proofs.TracesAsParts.{covers}
+use Rattle.trace_parts.specs.PartOfRevision.{part_by}
 use Rattle.rev_audit.specs.Own as own
 use Rattle.rev_audit.specs.Own.{BeginsAt, ComesTo, IsUnderWay, JoinedBefore, Stops, TakesEnd, taken_of}
 use Rattle.rev_audit.proofs.OwnRuns.{passes}

@@ -16,7 +16,7 @@ use Rattle.rev_audit.specs.Alone.{write_of, writes_from}
 use Rattle.revision_machine.proofs.Paths.{some_inj}
 use Rattle.trace_diagram.specs.declared.diagram.Change.{Change}
 use Rattle.audit_rules.specs.Parts.{IsApart, change_at, changes_fit, is_changed, is_known, kind_fits, location_of, number_of, told_locations}
-use Rattle.audit_rules.proofs.Own.{none_some}
+use Rattle.audit_rules.proofs.OneOwnRun.{none_some}
 use Rattle.rev_audit.specs.Told.{slots_from, with_written, write_to, written_in}
 
 -- ---- numbers of places

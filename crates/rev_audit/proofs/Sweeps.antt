@@ -27,9 +27,9 @@ use Rattle.audit_rules.specs.Parts.{calculus_parts}
 use Rattle.audit_rules.specs.Traces.{InPostOrder, part_at, IsComputedPart, SaysYes, SaysNo}
 use Rattle.audit_rules.specs.Verdicts.{computed_part}
 use Rattle.audit_rules.specs.declared.verdict.Computed.TheVariants as computed
-use Rattle.audit_rules.proofs.Own.{none_some, begins_one}
-use Rattle.audit_rules.proofs.Meets.{IsFit, tells}
-use Rattle.audit_rules.proofs.Traced.{each_is_computed}
+use Rattle.audit_rules.proofs.OneOwnRun.{none_some, begins_one}
+use Rattle.audit_rules.proofs.CalculusMeets.{IsFit, tells}
+use Rattle.audit_rules.proofs.TracesAsParts.{each_is_computed}
 use Rattle.rev_audit.specs.Own.{BeginsAt, ComesTo}
 use Rattle.rev_audit.specs.Sweep.{IsSoonest, sooner_of, Grows, IsSamePart, IsJustified, HasPassed, BeginsUnstated, IsStarts, Holds, BegunFrom, from_main, from_part, AreJustified, Differs, IsKept, ComputedAt, IsSwept, IsAhead, IsBehind}
 use Rattle.rev_audit.specs.declared.sweep.Difference.{Difference}

@@ -15,7 +15,7 @@ use Rattle.revision_machine.proofs.Paths.{some_inj}
 use Rattle.trace_diagram.specs.declared.diagram.Change.{Change}
 use Rattle.trace_diagram.specs.declared.diagram.Part.{Part}
 use Rattle.audit_rules.specs.Parts.{change_at, changes_fit, is_changed, kind_fits, number_of, places, told_locations, told_phase}
-use Rattle.audit_rules.proofs.Apart.{places_apart}
+use Rattle.audit_rules.proofs.PlacesApart.{places_apart}
 use Rattle.audit_rules.proofs.OwnRuns.{are_length, same_length}
 use Rattle.rev_audit.specs.Told.{AreSlots, Enters, TellsEnd, slots_from, write_to, written_in}
 use Rattle.rev_audit.proofs.Slots.{fits_at, fits_more, free_slot, kind_at, no_changes, no_fit, number_within, set_slot, slot_at, slots_length, unfit_kind, unfit_twice, unfit_whole, used_slot, written_told}

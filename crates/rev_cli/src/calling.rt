@@ -7,7 +7,7 @@ ghost use Rattle.merge_kernels.specs.Three.{greatest_expression, least_expressio
 
 use hub_workers::OpenGate;
 use merge_kernels::{
-    Kernel, RowKernel, RowRun, Run, greatest, greatest_def, least, least_def, sum, sum_def,
+    Kernel, NumberRun, RowKernel, RowRun, greatest, greatest_def, least, least_def, sum, sum_def,
     sum_lanes,
 };
 use rev_io::{Sink, Source};
@@ -28,7 +28,7 @@ pub fn call<R: AllocGlobal + Threads + Wait + Sync, S: Source, O: Sink, E: Sink>
     err: &mut E,
 ) -> Result<u8, AllocError> {
     let alloc = rt.alloc();
-    let by_sum: Run = Box::new(
+    let by_sum: NumberRun = Box::new(
         alloc,
         |m: i64, j: i64, r: i64| -> Result<i64, NumFault>
             ensures { result ≡ answer_of sum_expression m j r }
@@ -40,13 +40,13 @@ pub fn call<R: AllocGlobal + Threads + Wait + Sync, S: Source, O: Sink, E: Sink>
             ensures { result ≡ lanes_answer (answer_of sum_expression) m j r }
         { sum_lanes(m, j, r) },
     )?;
-    let by_greatest: Run = Box::new(
+    let by_greatest: NumberRun = Box::new(
         alloc,
         |m: i64, j: i64, r: i64| -> Result<i64, NumFault>
             ensures { result ≡ answer_of greatest_expression m j r }
         { greatest(m, j, r) },
     )?;
-    let by_least: Run = Box::new(
+    let by_least: NumberRun = Box::new(
         alloc,
         |m: i64, j: i64, r: i64| -> Result<i64, NumFault>
             ensures { result ≡ answer_of least_expression m j r }

@@ -1,3 +1,4 @@
+-- Definitions of rev_code: instructions, code, and what code means.
 pub mod Words
 pub mod State
 pub mod Variables

@@ -5,7 +5,7 @@ use rev_num::{Bytes, Items, ValueKind};
 /// An instruction. Jump targets are numbers of instructions of the same block, counted from 0; the
 /// other operands are a value that is pushed, a line, or the number of a local of the block, or of
 /// a variable, a layout or a block of the code.
-#[derive(Clone, Copy, PartialEq, Eq, Debug)]
+#[derive(Clone, Copy)]
 pub enum Instr {
     PushInt(i64),
     PushBool(bool),
@@ -50,7 +50,7 @@ pub enum Instr {
 }
 
 /// Code: the shared variables, the texts and layouts of what is printed, and the blocks.
-#[derive(PartialEq, Eq, Debug, Drop)]
+#[derive(Drop)]
 pub struct Code {
     pub vars: Items<CodeVar>,
     pub texts: Items<Bytes>,
@@ -62,7 +62,7 @@ pub struct Code {
 /// `cells` of an array. Each starts with the word `start`: the 64 bits of an int, 1 or 0 for a
 /// bool, and 0 for `none`. `merge` is the merge block of a cumulative variable, and 65,535
 /// otherwise.
-#[derive(PartialEq, Eq, Debug, Drop)]
+#[derive(Drop)]
 pub struct CodeVar {
     pub name: Bytes,
     pub cumulative: bool,
@@ -75,7 +75,7 @@ pub struct CodeVar {
 
 /// An item of a line that is printed: a number or a truth value from the stack, or the text of that
 /// number.
-#[derive(Clone, Copy, PartialEq, Eq, Debug)]
+#[derive(Clone, Copy)]
 pub enum LayoutItem {
     Int,
     Bool,
@@ -84,7 +84,7 @@ pub enum LayoutItem {
 
 /// A block of instructions. `locals` has the kinds of its locals, of which the first `params` are
 /// its parameters. `result` is the kind of its result, and None where it has none.
-#[derive(PartialEq, Eq, Debug, Drop)]
+#[derive(Drop)]
 pub struct CodeBlock {
     pub class: BlockClass,
     pub params: u8,
@@ -94,7 +94,7 @@ pub struct CodeBlock {
 }
 
 /// What a block is the code of.
-#[derive(Clone, Copy, PartialEq, Eq, Debug)]
+#[derive(Clone, Copy)]
 pub enum BlockClass {
     Fun,
     Merge,

@@ -2,8 +2,8 @@
 use Rattle.std.proofs.Common.{◌≡◌, ℕ, Bool, true, false, ◌||◌, List, [], length, refl, sym, ap, ◌∙◌, true≢false}
 use Rattle.rev_syntax.specs.declared.token.Token.{Token}
 use Rattle.rev_syntax.specs.Trees.{Expression}
-use Rattle.token_grammar.specs.Outcome.{Outcome, Parser, Read, Failed, and_then}
-use Rattle.token_grammar.specs.Reader.{begins}
+use Rattle.rev_expressions.specs.Outcome.{Outcome, Parser, Read, Failed, and_then}
+use Rattle.rev_expressions.specs.Reader.{begins}
 use Rattle.rev_expressions.specs.declared.expression.Rank.{Rank}
 use Rattle.rev_expressions.specs.declared.expression.Rank.TheVariants as r
 use Rattle.rev_expressions.specs.Grammar.{alphabet, rank_sign, joined, ranked, unary, product, sum, comparison, conjunction, expr}
@@ -58,25 +58,29 @@ module _ (bytes : List ℕ) (n : ℕ) where
   none_sum : (first : Expression) (ts : List Token) → operator_begins r.Sum ts ≡ false
       → sum_behind bytes n first ts ≡ Read first ts
   none_sum first ts h =
-      ap (λ o. and_then o (λ e rest. chain_behind bytes n r.Sum e rest)) (none_product first ts (left_none (operator_begins r.Product ts) (comes r.Sum ts) h))
+      ap (λ o. and_then o (λ e rest. chain_behind bytes n r.Sum e rest))
+      (none_product first ts (left_none (operator_begins r.Product ts) (comes r.Sum ts) h))
       ∙ chain_stop r.Sum first ts (rank_none r.Sum ts h)
 
   none_comparison : (first : Expression) (ts : List Token) → operator_begins r.Compare ts ≡ false
       → comparison_behind bytes n first ts ≡ Read first ts
   none_comparison first ts h =
-      ap (λ o. and_then o (λ e rest. chain_behind bytes n r.Compare e rest)) (none_sum first ts (left_none (operator_begins r.Sum ts) (comes r.Compare ts) h))
+      ap (λ o. and_then o (λ e rest. chain_behind bytes n r.Compare e rest))
+      (none_sum first ts (left_none (operator_begins r.Sum ts) (comes r.Compare ts) h))
       ∙ chain_stop r.Compare first ts (rank_none r.Compare ts h)
 
   none_conjunction : (first : Expression) (ts : List Token) → operator_begins r.And ts ≡ false
       → conjunction_behind bytes n first ts ≡ Read first ts
   none_conjunction first ts h =
-      ap (λ o. and_then o (λ e rest. chain_behind bytes n r.And e rest)) (none_comparison first ts (left_none (operator_begins r.Compare ts) (comes r.And ts) h))
+      ap (λ o. and_then o (λ e rest. chain_behind bytes n r.And e rest))
+      (none_comparison first ts (left_none (operator_begins r.Compare ts) (comes r.And ts) h))
       ∙ chain_stop r.And first ts (rank_none r.And ts h)
 
   none_expr : (first : Expression) (ts : List Token) → operator_begins r.Or ts ≡ false
       → expr_behind bytes n first ts ≡ Read first ts
   none_expr first ts h =
-      ap (λ o. and_then o (λ e rest. chain_behind bytes n r.Or e rest)) (none_conjunction first ts (left_none (operator_begins r.And ts) (comes r.Or ts) h))
+      ap (λ o. and_then o (λ e rest. chain_behind bytes n r.Or e rest))
+      (none_conjunction first ts (left_none (operator_begins r.And ts) (comes r.Or ts) h))
       ∙ chain_stop r.Or first ts (rank_none r.Or ts h)
 
   -- without an operator up to this rank all chains are the first operand

@@ -12,8 +12,8 @@ use Rattle.rev_expressions.specs.declared.expression.Rank.{Rank}
 use Rattle.rev_expressions.specs.declared.expression.Rank.TheVariants as r
 use Rattle.rev_expressions.specs.Classes.{Class, is_same}
 use Rattle.rev_expressions.specs.Source.{word_of}
-use Rattle.token_grammar.specs.Outcome.{Outcome, Read, Failed, and_then, after, next, Unexpected, TooDeep}
-use Rattle.token_grammar.specs.Reader.{begins, first, nullable, passes, next_kind, is_next, read, below, inside_of, Inside}
+use Rattle.rev_expressions.specs.Outcome.{Outcome, Read, Failed, and_then, after, next, Unexpected, TooDeep}
+use Rattle.rev_expressions.specs.Reader.{begins, first, nullable, passes, next_kind, is_next, read, below, inside_of, Inside}
 use Rattle.rev_expressions.specs.Grammar.{alphabet, Inner, Value, Operand, Parens, Index, Arguments, Parts, rank_sign, bracketed, choice, name, name_tail, primary, unary, product, sum, comparison, conjunction, expr, parens, index, arguments, parts, listed, listing, joined, moved}
 use Rattle.rev_expressions.specs.Declarations.{inner}
 use Rattle.rev_expressions.specs.Parse.{expected, parse, inside, links, of_name, of_parts, sign_at, expr_begins}

@@ -3,8 +3,8 @@ use Rattle.std.proofs.Common.{◌≡◌, ℕ, zero, suc, Bool, true, false, cond
 use Rattle.rev_syntax.specs.declared.token.Token.{Token}
 use Rattle.rev_syntax.specs.declared.token.Fixed.TheVariants as s
 use Rattle.rev_expressions.specs.Classes.{Class, is_same}
-use Rattle.token_grammar.specs.Outcome.{Outcome, Read, Failed, Unexpected, and_then, after}
-use Rattle.token_grammar.specs.Reader.{begins, first, is_next, passes, next_kind, read}
+use Rattle.rev_expressions.specs.Outcome.{Outcome, Read, Failed, Unexpected, and_then, after}
+use Rattle.rev_expressions.specs.Reader.{begins, first, is_next, passes, next_kind, read}
 use Rattle.rev_expressions.specs.Grammar.{alphabet, Rule, behind, all, listed, never}
 use Rattle.rev_expressions.specs.Parse.{parse}
 use Rattle.rev_expressions.specs.Lists.{more_of, more_listed}

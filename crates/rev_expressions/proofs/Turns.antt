@@ -3,8 +3,8 @@ use Rattle.std.proofs.Common.{◌≡◌, ℕ, zero, suc, Bool, true, false, cond
 use Rattle.rev_syntax.specs.declared.token.Token.{Token}
 use Rattle.rev_syntax.specs.Trees.{Expression}
 use Rattle.rev_syntax.specs.declared.tree.BinaryOp.{BinaryOp}
-use Rattle.token_grammar.specs.Outcome.{Outcome, Read, Failed, Parser, and_then, after}
-use Rattle.token_grammar.specs.Reader.{begins, first, nullable, passes, next_kind, read, repeat, below}
+use Rattle.rev_expressions.specs.Outcome.{Outcome, Read, Failed, Parser, and_then, after}
+use Rattle.rev_expressions.specs.Reader.{begins, first, nullable, passes, next_kind, read, repeat, below}
 use Rattle.rev_expressions.specs.declared.expression.Rank.{Rank}
 use Rattle.rev_expressions.specs.declared.expression.Rank.TheVariants as r
 use Rattle.rev_expressions.specs.Grammar.{alphabet, rank_sign, linked, is_single, joined, ranked, operand, product, sum, comparison, conjunction, expr}

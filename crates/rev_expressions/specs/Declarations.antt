@@ -6,7 +6,7 @@ use Rattle.rev_num.specs.declared.value.Value.{Value}
 use Rattle.rev_num.specs.declared.value.Value.TheVariants as v
 use Rattle.rev_syntax.specs.Trees as t
 use Rattle.rev_syntax.specs.Trees.{PlacedName, Expression, Statements, Parameter, ArraySize, Constant, Declaration, ProgramTree}
-use Rattle.token_grammar.specs.Form.{Rules, nothing, token, level, both, either}
+use Rattle.rev_expressions.specs.Form.{Rules, nothing, token, level, both, either}
 use Rattle.rev_syntax.specs.declared.token.Fixed.TheVariants as s
 use Rattle.rev_syntax.specs.declared.token.Fixed.{Fixed}
 use Rattle.rev_expressions.specs.Source.{int_of}

@@ -7,7 +7,7 @@ use Rattle.rev_syntax.specs.declared.tree.UnaryOp.TheVariants as u
 use Rattle.rev_syntax.specs.declared.tree.BinaryOp.{BinaryOp}
 use Rattle.rev_syntax.specs.declared.tree.BinaryOp.TheVariants as b
 use Rattle.rev_syntax.specs.declared.token.Token.{Token}
-use Rattle.token_grammar.specs.Form.{Alphabet, Form, nothing, token, level, both, either, many}
+use Rattle.rev_expressions.specs.Form.{Alphabet, Form, nothing, token, level, both, either, many}
 use Rattle.rev_expressions.specs.declared.expression.Rank.{Rank}
 use Rattle.rev_expressions.specs.declared.expression.Rank.TheVariants as r
 use Rattle.rev_syntax.specs.declared.token.Fixed.TheVariants as s

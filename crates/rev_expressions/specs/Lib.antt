@@ -1,3 +1,4 @@
+-- Definitions of rev_expressions: the grammar of the language, and the parser of expressions.
 pub mod Classes
 pub mod Source
 pub mod Reads
@@ -7,3 +8,9 @@ pub mod Declarations
 pub mod Parse
 pub mod Parses
 pub mod Lists
+pub mod Outcome
+pub mod Form
+pub mod Reader
+pub mod Exact
+pub mod First
+pub mod Theorem

@@ -2,8 +2,8 @@
 use Rattle.std.specs.Prelude.{ℕ, List, length}
 use Rattle.rev_syntax.specs.declared.token.Token.{Token}
 use Rattle.rev_syntax.specs.declared.token.Fixed.TheVariants as s
-use Rattle.token_grammar.specs.Outcome.{Parser}
-use Rattle.token_grammar.specs.Reader.{begins, repeat}
+use Rattle.rev_expressions.specs.Outcome.{Parser}
+use Rattle.rev_expressions.specs.Reader.{begins, repeat}
 use Rattle.rev_expressions.specs.Grammar.{alphabet, Rule, behind, never}
 use Rattle.rev_expressions.specs.Parse.{parse}
 

@@ -4,8 +4,8 @@ use Rattle.rev_syntax.specs.declared.token.Token.{Token}
 use Rattle.rev_syntax.specs.declared.tree.BinaryOp.{BinaryOp}
 use Rattle.rev_syntax.specs.Trees.{PlacedName, Expression, placed, cell, apply, pick}
 use Rattle.rev_syntax.specs.View.{expressions_of}
-use Rattle.token_grammar.specs.Outcome.{Outcome, Parser, Read, and_then, after, next}
-use Rattle.token_grammar.specs.Reader.{begins, below, inside_of, is_next, parser, read, taken}
+use Rattle.rev_expressions.specs.Outcome.{Outcome, Parser, Read, and_then, after, next}
+use Rattle.rev_expressions.specs.Reader.{begins, below, inside_of, is_next, parser, read, taken}
 use Rattle.rev_expressions.specs.declared.expression.Rank.{Rank}
 use Rattle.rev_expressions.specs.declared.expression.Rank.TheVariants as r
 use Rattle.rev_expressions.specs.Grammar.{alphabet, Rule, Inner, Value, rank_sign, operand, links_by, joined, expr}

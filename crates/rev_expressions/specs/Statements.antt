@@ -3,7 +3,7 @@ use Rattle.std.specs.Prelude.{ℕ, Bool, true, false, List, [], ◌∷◌, Optio
 use Rattle.rev_syntax.specs.Trees as t
 use Rattle.rev_syntax.specs.Trees.{PlacedName, Expression, RightSide, PrintItem, Statement, Statements, StatementForm}
 use Rattle.rev_syntax.specs.View.{expressions_of, statements_of, arms_of, choice}
-use Rattle.token_grammar.specs.Form.{nothing, token, level, both, either, many}
+use Rattle.rev_expressions.specs.Form.{nothing, token, level, both, either, many}
 use Rattle.rev_syntax.specs.declared.token.Fixed.TheVariants as s
 use Rattle.rev_syntax.specs.declared.token.Fixed.{Fixed}
 use Rattle.rev_expressions.specs.Source.{word_of, text_of}

@@ -1,6 +1,6 @@
-// The tokens that are left.
+//! The tokens that are left.
 ghost use Rattle.std.specs.Prelude.{◌≡◌, length};
-ghost use Rattle.token_grammar.specs.Outcome as spec;
+ghost use Rattle.rev_expressions.specs.Outcome as spec;
 ghost use Rattle.rev_expressions.specs.Classes.{class_of, fixed, is_same};
 ghost use Rattle.rev_expressions.specs.Parse.{expected, name_comes, sign_comes};
 ghost use Rattle.rev_expressions.specs.Reads.{Reads, IsWithin, same};
@@ -10,8 +10,8 @@ use std::alloc::{AllocError, AllocFailed};
 
 /// Why a text has no tree, with the cursor at the place; or want of memory, which says nothing of
 /// the text.
-#[derive(Clone, Copy, Drop, Debug)]
-pub enum Fault {
+#[derive(Clone, Copy, Drop)]
+pub enum TreeFault {
     /// What is parsed does not go on with the next token, or with the end.
     Unexpected,
     /// The next token opens a level too many.
@@ -19,25 +19,25 @@ pub enum Fault {
     OutOfMemory,
 }
 
-impl From<AllocError> for Fault {
+impl From<AllocError> for TreeFault {
     ghost use Rattle.std.specs.Prelude.{◌≡◌};
-    ghost use Rattle.rev_expressions.specs.declared.cursor.Fault.{Fault};
+    ghost use Rattle.rev_expressions.specs.declared.cursor.TreeFault.{TreeFault};
 
-    ghost from_gives = { λ _ f. f ≡ Fault.OutOfMemory };
+    ghost from_gives = { λ _ f. f ≡ TreeFault.OutOfMemory };
 
-    fn from(_: AllocError) -> Fault {
-        Fault::OutOfMemory
+    fn from(_: AllocError) -> TreeFault {
+        TreeFault::OutOfMemory
     }
 }
 
-impl<T: Drop> From<AllocFailed<T>> for Fault {
+impl<T: Drop> From<AllocFailed<T>> for TreeFault {
     ghost use Rattle.std.specs.Prelude.{◌≡◌};
-    ghost use Rattle.rev_expressions.specs.declared.cursor.Fault.{Fault};
+    ghost use Rattle.rev_expressions.specs.declared.cursor.TreeFault.{TreeFault};
 
-    ghost from_gives = { λ _ f. f ≡ Fault.OutOfMemory };
+    ghost from_gives = { λ _ f. f ≡ TreeFault.OutOfMemory };
 
-    fn from(_: AllocFailed<T>) -> Fault {
-        Fault::OutOfMemory
+    fn from(_: AllocFailed<T>) -> TreeFault {
+        TreeFault::OutOfMemory
     }
 }
 
@@ -95,11 +95,11 @@ impl<'a> Cursor<'a> {
     }
 
     /// Reads this word or sign.
-    pub fn expect(&mut self, sign: Fixed) -> Result<(), Fault>
+    pub fn expect(&mut self, sign: Fixed) -> Result<(), TreeFault>
         ensures { Reads (expected sign self.old.rest.now) same result self.new.rest.now }
     {
         if !self.is_at(sign) {
-            return Err(Fault::Unexpected);
+            return Err(TreeFault::Unexpected);
         }
         self.advance();
         Ok(())
@@ -117,11 +117,11 @@ fn is_sign(kind: TokenKind, sign: Fixed) -> bool
 }
 
 /// The levels that are left after one more, if one may be opened.
-pub fn within(levels: u32) -> Result<u32, Fault>
+pub fn within(levels: u32) -> Result<u32, TreeFault>
     ensures { IsWithin levels result }
 {
     if levels == 0 {
-        Err(Fault::TooDeep)
+        Err(TreeFault::TooDeep)
     } else {
         Ok(levels - 1)
     }

@@ -1,17 +1,17 @@
-// Expressions.
+//! The parser of expressions, each production above the function that reads it.
 ghost use Rattle.std.specs.Prelude.{◌≡◌, ◌++◌, [], ◌∷◌, IfOk, OnOk, map};
 ghost use Rattle.rev_expressions.specs.Grammar as spec;
 ghost use Rattle.rev_expressions.specs.Parse.{parse, inside, IsSign, links, of_name};
 ghost use Rattle.rev_expressions.specs.Parse.{of_parts, cell_of, apply_of, expr_begins};
 ghost use Rattle.rev_expressions.specs.Parse.{chain_behind, operator_begins, ranked_behind};
-ghost use Rattle.token_grammar.specs.Reader.{begins};
+ghost use Rattle.rev_expressions.specs.Reader.{begins};
 ghost use Rattle.rev_expressions.specs.Lists.{more_behind};
 ghost use Rattle.rev_expressions.specs.Parses.{Parses, ParsesBy};
 ghost use Rattle.rev_syntax.specs.Trees as t;
 ghost use Rattle.rev_syntax.specs.View as view;
 
-use crate::cursor::{Cursor, Fault, within};
-use crate::source::Source;
+use crate::cursor::{Cursor, TreeFault, within};
+use crate::source::SourceText;
 use rev_syntax::{BinaryOp, Expr, Fixed, Link, Name, Node, Token, TokenKind, UnaryOp};
 use std::alloc::{AllocError, Global};
 
@@ -26,7 +26,7 @@ pub enum Rank {
 }
 
 /// The operator of this rank that comes next, if one does.
-#[tactic(auto, unfolding(token_grammar::specs::Reader::read, crate::specs::Grammar::rank_sign))]
+#[tactic(auto, unfolding(crate::specs::Reader::read, crate::specs::Grammar::rank_sign))]
 fn sign(cursor: &Cursor<'_>, rank: Rank) -> Option<BinaryOp>
     ensures { IsSign rank cursor.now.rest.now result }
 {
@@ -230,14 +230,18 @@ fn placed(at: u32, node: Node) -> Expr
 
 /// A name.
 #[tactic(auto, using(crate::proofs::Expressions::name_cases))]
-pub fn name(source: &Source<'_>, cursor: &mut Cursor<'_>, levels: u32) -> Result<Name, Fault>
+pub fn name(
+    source: &SourceText<'_>,
+    cursor: &mut Cursor<'_>,
+    levels: u32,
+) -> Result<Name, TreeFault>
     ensures { Parses spec.name source.now levels cursor.old view.placed_name result cursor.new }
 {
     let Some(token) = cursor.peek() else {
-        return Err(Fault::Unexpected);
+        return Err(TreeFault::Unexpected);
     };
     if !matches!(token.kind, TokenKind::Name) {
-        return Err(Fault::Unexpected);
+        return Err(TreeFault::Unexpected);
     }
     let name = source.name(token)?;
     cursor.advance();
@@ -245,7 +249,11 @@ pub fn name(source: &Source<'_>, cursor: &mut Cursor<'_>, levels: u32) -> Result
 }
 
 /// An expression, where so many levels may be opened.
-pub fn expr(source: &Source<'_>, cursor: &mut Cursor<'_>, levels: u32) -> Result<Expr, Fault>
+pub fn expr(
+    source: &SourceText<'_>,
+    cursor: &mut Cursor<'_>,
+    levels: u32,
+) -> Result<Expr, TreeFault>
     ensures { Parses spec.expr source.now levels cursor.old view.expression result cursor.new }
 {
     ranked(source, cursor, levels, Rank::Or)
@@ -255,11 +263,11 @@ pub fn expr(source: &Source<'_>, cursor: &mut Cursor<'_>, levels: u32) -> Result
 #[cycle(expr)]
 #[tactic(auto, using(crate::proofs::Chains::ranked_is_behind, crate::proofs::Chains::none_behind))]
 fn ranked(
-    source: &Source<'_>,
+    source: &SourceText<'_>,
     cursor: &mut Cursor<'_>,
     levels: u32,
     rank: Rank,
-) -> Result<Expr, Fault>
+) -> Result<Expr, TreeFault>
     ensures { Parses (λ b. spec.ranked b rank)
         source.now levels cursor.old view.expression result cursor.new }
 {
@@ -275,12 +283,12 @@ fn ranked(
 #[cycle(expr)]
 #[tactic(auto, using(crate::proofs::Chains::chain_none))]
 fn chains(
-    source: &Source<'_>,
+    source: &SourceText<'_>,
     cursor: &mut Cursor<'_>,
     levels: u32,
     rank: Rank,
     first: Expr,
-) -> Result<Expr, Fault>
+) -> Result<Expr, TreeFault>
     ensures { ParsesBy (λ b n ts. ranked_behind b n rank (view.expression first) ts)
         source.now levels cursor.old view.expression result cursor.new }
 {
@@ -321,12 +329,12 @@ fn chains(
 #[cycle(expr)]
 #[tactic(auto, using(crate::proofs::Chains::chain_stop))]
 fn chain(
-    source: &Source<'_>,
+    source: &SourceText<'_>,
     cursor: &mut Cursor<'_>,
     levels: u32,
     rank: Rank,
     first: Expr,
-) -> Result<Expr, Fault>
+) -> Result<Expr, TreeFault>
     ensures { ParsesBy (λ b n ts. chain_behind b n rank (view.expression first) ts)
         source.now levels cursor.old view.expression result cursor.new }
 {
@@ -346,11 +354,11 @@ fn is_single(rank: Rank) -> bool
 #[cycle(expr)]
 #[tactic(auto, using(crate::proofs::Turns::link_turns))]
 fn links(
-    source: &Source<'_>,
+    source: &SourceText<'_>,
     cursor: &mut Cursor<'_>,
     levels: u32,
     rank: Rank,
-) -> Result<Vec<Link>, Fault>
+) -> Result<Vec<Link>, TreeFault>
     ensures { Parses (λ b. links b rank)
         source.now levels cursor.old (λ ls. map view.link ls.items) result cursor.new }
 {
@@ -372,11 +380,11 @@ fn links(
 /// An operand of a chain of this rank.
 #[cycle(expr)]
 fn operand(
-    source: &Source<'_>,
+    source: &SourceText<'_>,
     cursor: &mut Cursor<'_>,
     levels: u32,
     rank: Rank,
-) -> Result<Expr, Fault>
+) -> Result<Expr, TreeFault>
     ensures { Parses (λ b. spec.operand b rank)
         source.now levels cursor.old view.expression result cursor.new }
 {
@@ -390,11 +398,11 @@ fn operand(
 }
 
 #[cycle(expr)]
-fn unary(source: &Source<'_>, cursor: &mut Cursor<'_>, levels: u32) -> Result<Expr, Fault>
+fn unary(source: &SourceText<'_>, cursor: &mut Cursor<'_>, levels: u32) -> Result<Expr, TreeFault>
     ensures { Parses spec.unary source.now levels cursor.old view.expression result cursor.new }
 {
     let Some(token) = cursor.peek() else {
-        return Err(Fault::Unexpected);
+        return Err(TreeFault::Unexpected);
     };
     match token.kind {
         TokenKind::Fixed(Fixed::Minus) => prefixed(
@@ -419,12 +427,12 @@ fn unary(source: &Source<'_>, cursor: &mut Cursor<'_>, levels: u32) -> Result<Ex
 #[cycle(expr)]
 #[tactic(auto, using(crate::proofs::Expressions::inside_none))]
 fn prefixed(
-    source: &Source<'_>,
+    source: &SourceText<'_>,
     cursor: &mut Cursor<'_>,
     levels: u32,
     at: u32,
     op: UnaryOp,
-) -> Result<Expr, Fault>
+) -> Result<Expr, TreeFault>
     ensures { ParsesBy (λ b n ts. inside b n spec.Operand (λ e. t.placed at (t.unary op e)) ts)
         source.now levels cursor.old view.expression result cursor.new }
 {
@@ -435,12 +443,12 @@ fn prefixed(
 }
 
 #[cycle(expr)]
-#[tactic(auto, unfolding(token_grammar::specs::Reader::read, crate::specs::Grammar::primary, crate::specs::Grammar::name))]
-fn primary(source: &Source<'_>, cursor: &mut Cursor<'_>, levels: u32) -> Result<Expr, Fault>
+#[tactic(auto, unfolding(crate::specs::Reader::read, crate::specs::Grammar::primary, crate::specs::Grammar::name))]
+fn primary(source: &SourceText<'_>, cursor: &mut Cursor<'_>, levels: u32) -> Result<Expr, TreeFault>
     ensures { Parses spec.primary source.now levels cursor.old view.expression result cursor.new }
 {
     let Some(token) = cursor.peek() else {
-        return Err(Fault::Unexpected);
+        return Err(TreeFault::Unexpected);
     };
     let at = token.start;
     match token.kind {
@@ -479,7 +487,7 @@ fn primary(source: &Source<'_>, cursor: &mut Cursor<'_>, levels: u32) -> Result<
             pick(source, cursor, levels, at)
         }
         TokenKind::Fixed(Fixed::OpenParen) => parenthesized(source, cursor, levels, at),
-        _ => Err(Fault::Unexpected),
+        _ => Err(TreeFault::Unexpected),
     }
 }
 
@@ -487,11 +495,11 @@ fn primary(source: &Source<'_>, cursor: &mut Cursor<'_>, levels: u32) -> Result<
 #[cycle(expr)]
 #[tactic(auto, using(crate::proofs::Expressions::inside_none))]
 fn parenthesized(
-    source: &Source<'_>,
+    source: &SourceText<'_>,
     cursor: &mut Cursor<'_>,
     levels: u32,
     at: u32,
-) -> Result<Expr, Fault>
+) -> Result<Expr, TreeFault>
     ensures { ParsesBy (λ b n ts. inside b n spec.Parens (spec.moved at) ts)
         source.now levels cursor.old view.expression result cursor.new }
 {
@@ -505,11 +513,11 @@ fn parenthesized(
 /// What follows a name.
 #[cycle(expr)]
 fn named(
-    source: &Source<'_>,
+    source: &SourceText<'_>,
     cursor: &mut Cursor<'_>,
     levels: u32,
     name: Name,
-) -> Result<Expr, Fault>
+) -> Result<Expr, TreeFault>
     ensures { ParsesBy (λ b n ts. of_name (view.placed_name name) (parse b n (spec.name_tail b) ts))
         source.now levels cursor.old view.expression result cursor.new }
 {
@@ -527,11 +535,11 @@ fn named(
 #[cycle(expr)]
 #[tactic(auto, using(crate::proofs::Expressions::inside_none))]
 fn indexed(
-    source: &Source<'_>,
+    source: &SourceText<'_>,
     cursor: &mut Cursor<'_>,
     levels: u32,
     name: Name,
-) -> Result<Expr, Fault>
+) -> Result<Expr, TreeFault>
     ensures { ParsesBy (λ b n ts. inside b n spec.Index (cell_of (view.placed_name name)) ts)
         source.now levels cursor.old view.expression result cursor.new }
 {
@@ -545,11 +553,11 @@ fn indexed(
 #[cycle(expr)]
 #[tactic(auto, using(crate::proofs::Expressions::inside_none))]
 fn called(
-    source: &Source<'_>,
+    source: &SourceText<'_>,
     cursor: &mut Cursor<'_>,
     levels: u32,
     name: Name,
-) -> Result<Expr, Fault>
+) -> Result<Expr, TreeFault>
     ensures { ParsesBy (λ b n ts. inside b n spec.Arguments (apply_of (view.placed_name name)) ts)
         source.now levels cursor.old view.expression result cursor.new }
 {
@@ -562,12 +570,16 @@ fn called(
 /// An index in its brackets.
 #[cycle(expr)]
 #[tactic(auto, using(crate::proofs::Expressions::bracketed_cases))]
-pub fn bracketed(source: &Source<'_>, cursor: &mut Cursor<'_>, levels: u32) -> Result<Expr, Fault>
+pub fn bracketed(
+    source: &SourceText<'_>,
+    cursor: &mut Cursor<'_>,
+    levels: u32,
+) -> Result<Expr, TreeFault>
     ensures { Parses (λ _. spec.bracketed)
         source.now levels cursor.old view.expression result cursor.new }
 {
     if !cursor.is_at(Fixed::OpenBracket) {
-        return Err(Fault::Unexpected);
+        return Err(TreeFault::Unexpected);
     }
     let inner = within(levels)?;
     cursor.advance();
@@ -577,7 +589,7 @@ pub fn bracketed(source: &Source<'_>, cursor: &mut Cursor<'_>, levels: u32) -> R
 /// An index behind its opening bracket.
 #[cycle(expr)]
 #[tactic(auto, using(crate::proofs::Expressions::index_is))]
-fn index(source: &Source<'_>, cursor: &mut Cursor<'_>, levels: u32) -> Result<Expr, Fault>
+fn index(source: &SourceText<'_>, cursor: &mut Cursor<'_>, levels: u32) -> Result<Expr, TreeFault>
     ensures { Parses spec.index source.now levels cursor.old view.expression result cursor.new }
 {
     let e = ranked(source, cursor, levels, Rank::Or)?;
@@ -588,12 +600,17 @@ fn index(source: &Source<'_>, cursor: &mut Cursor<'_>, levels: u32) -> Result<Ex
 /// The three parts of a `pick`, in their parentheses.
 #[cycle(expr)]
 #[tactic(auto, using(crate::proofs::Expressions::pick_cases))]
-fn pick(source: &Source<'_>, cursor: &mut Cursor<'_>, levels: u32, at: u32) -> Result<Expr, Fault>
+fn pick(
+    source: &SourceText<'_>,
+    cursor: &mut Cursor<'_>,
+    levels: u32,
+    at: u32,
+) -> Result<Expr, TreeFault>
     ensures { ParsesBy (λ b n ts. of_parts at (parse b n spec.choice ts))
         source.now levels cursor.old view.expression result cursor.new }
 {
     if !cursor.is_at(Fixed::OpenParen) {
-        return Err(Fault::Unexpected);
+        return Err(TreeFault::Unexpected);
     }
     let inner = within(levels)?;
     cursor.advance();
@@ -634,10 +651,10 @@ pub fn begins_expr(cursor: &Cursor<'_>) -> bool
 #[cycle(expr)]
 #[tactic(auto, using(crate::proofs::Expressions::arguments_are))]
 pub fn arguments(
-    source: &Source<'_>,
+    source: &SourceText<'_>,
     cursor: &mut Cursor<'_>,
     levels: u32,
-) -> Result<Vec<Expr>, Fault>
+) -> Result<Vec<Expr>, TreeFault>
     ensures { Parses spec.arguments
         source.now levels cursor.old (λ es. map view.expression es.items) result cursor.new }
 {
@@ -648,10 +665,10 @@ pub fn arguments(
 
 #[cycle(expr)]
 fn some_arguments(
-    source: &Source<'_>,
+    source: &SourceText<'_>,
     cursor: &mut Cursor<'_>,
     levels: u32,
-) -> Result<Vec<Expr>, Fault>
+) -> Result<Vec<Expr>, TreeFault>
     ensures { Parses (λ b. spec.listing (spec.expr b))
         source.now levels cursor.old (λ es. map view.expression es.items) result cursor.new }
 {
@@ -668,11 +685,11 @@ fn some_arguments(
 #[cycle(expr)]
 #[tactic(auto, using(crate::proofs::Lists::comma_turns))]
 fn more_arguments(
-    source: &Source<'_>,
+    source: &SourceText<'_>,
     cursor: &mut Cursor<'_>,
     levels: u32,
     args: Vec<Expr>,
-) -> Result<Vec<Expr>, Fault>
+) -> Result<Vec<Expr>, TreeFault>
     ensures { ParsesBy (λ b n. more_behind b n (spec.expr b) (map view.expression args.items))
         source.now levels cursor.old (λ es. map view.expression es.items) result cursor.new }
 {

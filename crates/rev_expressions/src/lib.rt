@@ -8,8 +8,10 @@
 
 mod cursor;
 mod expression;
+mod laws;
 mod source;
 
-pub use cursor::{Cursor, Fault, within};
+pub use cursor::{Cursor, TreeFault, within};
 pub use expression::{arguments, begins_expr, bracketed, expr, name};
-pub use source::Source;
+pub use laws::{Grammar, parser_is_exact};
+pub use source::SourceText;

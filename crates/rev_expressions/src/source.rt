@@ -1,4 +1,4 @@
-// The text that is parsed.
+//! The text that is parsed.
 ghost use Rattle.std.specs.Prelude.{◌≡◌, ◌<◌, ◌^◌, ◌-◌, IfOk, IfSome, IsTrue, length};
 ghost use Rattle.rev_expressions.specs.Source.{IsEdge, feeds_from, text_of, word_of};
 ghost use Rattle.rev_syntax.specs.Places.{line_of};
@@ -10,7 +10,7 @@ use std::alloc::{AllocError, Global};
 
 /// A text, with where its memory comes from and the places of its line feeds.
 #[derive(Drop)]
-pub struct Source<'a> {
+pub struct SourceText<'a> {
     pub alloc: Global,
     pub bytes: &'a [u8],
     feeds: Vec<u32>,
@@ -60,14 +60,14 @@ fn edge_near(feeds: &[u32], count: usize, at: u32) -> Option<usize>
     None
 }
 
-impl<'a> Source<'a> {
+impl<'a> SourceText<'a> {
     /// A text, whose line feeds are counted once here.
-    pub fn new(alloc: Global, bytes: &'a [u8]) -> Result<Source<'a>, AllocError>
+    pub fn new(alloc: Global, bytes: &'a [u8]) -> Result<SourceText<'a>, AllocError>
         requires { length bytes.now < 2 ^ 32 - 1 }
         ensures { IfOk result (λ s. s.bytes.now ≡ bytes.now) }
     {
         let feeds = feeds_of(alloc, bytes)?;
-        Ok(Source {
+        Ok(SourceText {
             alloc,
             bytes,
             feeds,

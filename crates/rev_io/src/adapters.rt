@@ -1,4 +1,4 @@
-// Readers and writers of the standard library as sources and sinks.
+//! Readers and writers of the standard library as sources and sinks.
 ghost use Rattle.std.specs.Prelude.{◌≡◌, IfErr};
 ghost use Rattle.rev_io.specs.Stream.{Writes};
 ghost use Rattle.rev_io.specs.Memory.{untold};

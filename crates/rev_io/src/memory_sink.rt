@@ -1,4 +1,4 @@
-// Sinks over bytes in memory.
+//! Sinks over bytes in memory.
 ghost use Rattle.std.specs.Prelude.{◌≡◌, ◌≤◌, [], List};
 ghost use Rattle.rev_io.specs.Stream.{Writes};
 ghost use Rattle.rev_io.specs.Memory.{CalmlyWrites, SteppedWrites, told_store, told_bytes};

@@ -1,4 +1,4 @@
-// Sources over bytes in memory.
+//! Sources over bytes in memory.
 ghost use Rattle.std.specs.Prelude.{◌≡◌, ◌≤◌, List, length};
 ghost use Rattle.rev_io.specs.Stream.{Reads};
 ghost use Rattle.rev_io.specs.Memory.{CalmlyReads, SteppedReads, told_feed, told_bytes};

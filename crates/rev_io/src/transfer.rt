@@ -1,4 +1,4 @@
-// Reading to the end, and writing all.
+//! Reading a source to its end, and writing all bytes to a sink.
 ghost use Rattle.std.specs.Prelude.{◌<◌, ◌^◌};
 ghost use Rattle.rev_io.specs.Stream.{ReadsText, WritesAll};
 

@@ -1,3 +1,4 @@
+-- Definitions of rev_kinds: the rules on names and kinds of expressions.
 pub mod Faults
 pub mod Kinds
 pub mod Laws

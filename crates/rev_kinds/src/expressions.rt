@@ -19,17 +19,17 @@ use rev_syntax::{Expr, Link, Name, Node, Param, Rhs};
 
 /// An expression that was checked: its kind, if it has one, and the first rule that it breaks.
 #[derive(Clone, Copy, Drop)]
-pub struct Seen {
+pub struct CheckedExpression {
     pub kind: Option<ValueKind>,
     pub fault: Option<TypeFault>,
 }
 
-impl Seen {
-    fn new(kind: Option<ValueKind>, fault: Option<TypeFault>) -> Seen
+impl CheckedExpression {
+    fn new(kind: Option<ValueKind>, fault: Option<TypeFault>) -> CheckedExpression
         ensures kind { result.kind ≡ kind }
         ensures fault { result.fault ≡ fault }
     {
-        Seen { kind, fault }
+        CheckedExpression { kind, fault }
     }
 }
 
@@ -71,7 +71,7 @@ impl<'a> Checker<'_, 'a> {
 
     /// An expression, with the locals that are in scope.
     #[cycle(expression)]
-    pub fn expression(&self, locals: &Locals, e: &Expr) -> Seen
+    pub fn expression(&self, locals: &Locals, e: &Expr) -> CheckedExpression
         ensures kind { result.kind
             ≡ kind.kind_in (rule.names_of self.now) locals.now (expression e.now) }
         ensures fault { result.fault
@@ -81,7 +81,7 @@ impl<'a> Checker<'_, 'a> {
     }
 
     #[cycle(expression)]
-    fn node(&self, locals: &Locals, node: &Node) -> Seen
+    fn node(&self, locals: &Locals, node: &Node) -> CheckedExpression
         ensures kind { result.kind
             ≡ kind.expression_form_kind (rule.names_of self.now) locals.now
             (expression_form node.now) }
@@ -90,13 +90,13 @@ impl<'a> Checker<'_, 'a> {
             (expression_form node.now) }
     {
         match node {
-            Node::Int(_) => Seen::new(Some(ValueKind::Int), None),
-            Node::Bool(_) => Seen::new(Some(ValueKind::Bool), None),
-            Node::NoRev => Seen::new(Some(ValueKind::Rev), None),
+            Node::Int(_) => CheckedExpression::new(Some(ValueKind::Int), None),
+            Node::Bool(_) => CheckedExpression::new(Some(ValueKind::Bool), None),
+            Node::NoRev => CheckedExpression::new(Some(ValueKind::Rev), None),
             Node::Var(name) => {
                 let local = locals.find(&name.text);
                 let shared = self.holder(name);
-                Seen::new(name_kind(local, shared), scalar_use(name, local, shared))
+                CheckedExpression::new(name_kind(local, shared), scalar_use(name, local, shared))
             }
             Node::Cell { name, index } => {
                 let local = locals.find(&name.text);
@@ -105,20 +105,20 @@ impl<'a> Checker<'_, 'a> {
                     array_use(name, local, shared),
                     self.part(locals, index, ValueKind::Int),
                 );
-                Seen::new(name_kind(local, shared), fault)
+                CheckedExpression::new(name_kind(local, shared), fault)
             }
             Node::Apply { name, args } => {
                 let fun = self.fun(name);
-                Seen::new(result_of(fun), self.args(locals, params_of(fun), args))
+                CheckedExpression::new(result_of(fun), self.args(locals, params_of(fun), args))
             }
             Node::Input { word_at, index } => {
                 let fault = first(
                     input_use(self.inside, *word_at),
                     self.part(locals, index, ValueKind::Int),
                 );
-                Seen::new(Some(ValueKind::Int), fault)
+                CheckedExpression::new(Some(ValueKind::Int), fault)
             }
-            Node::Inputs { word_at } => Seen::new(
+            Node::Inputs { word_at } => CheckedExpression::new(
                 Some(ValueKind::Int),
                 input_use(self.inside, *word_at),
             ),
@@ -128,16 +128,16 @@ impl<'a> Checker<'_, 'a> {
                 let right = self.expression(locals, no);
                 let branches = first(left.fault, right.fault);
                 let fault = first(test, first(branches, alike(no.at, left.kind, right.kind)));
-                Seen::new(left.kind, fault)
+                CheckedExpression::new(left.kind, fault)
             }
             Node::Unary { op, part } => {
                 let wanted = operand_kind(*op);
-                Seen::new(Some(wanted), self.part(locals, part, wanted))
+                CheckedExpression::new(Some(wanted), self.part(locals, part, wanted))
             }
             Node::Chain { first: head, rest } => {
                 let left = self.expression(locals, head);
                 let found = first(left.fault, first_operand(rest, head.at, left.kind));
-                Seen::new(links_kind(rest), self.links(locals, left.kind, found, rest))
+                CheckedExpression::new(links_kind(rest), self.links(locals, left.kind, found, rest))
             }
         }
     }
@@ -231,7 +231,7 @@ impl<'a> Checker<'_, 'a> {
     }
 
     /// A right side.
-    pub fn right_side(&self, locals: &Locals, rhs: &Rhs) -> Seen
+    pub fn right_side(&self, locals: &Locals, rhs: &Rhs) -> CheckedExpression
         ensures kind { result.kind
             ≡ kind.right_side_kind (rule.names_of self.now) locals.now (right_side rhs.now) }
         ensures fault { result.fault
@@ -245,13 +245,13 @@ impl<'a> Checker<'_, 'a> {
                     result_use(name.at, proc),
                     self.call_of(locals, name, proc, args),
                 );
-                Seen::new(result_of(proc), fault)
+                CheckedExpression::new(result_of(proc), fault)
             }
             Rhs::Fork { name, args, .. } => {
-                Seen::new(Some(ValueKind::Rev), self.call(locals, name, args))
+                CheckedExpression::new(Some(ValueKind::Rev), self.call(locals, name, args))
             }
             Rhs::Try { handle, .. } => {
-                Seen::new(
+                CheckedExpression::new(
                     Some(ValueKind::Bool),
                     self.part(locals, handle, ValueKind::Rev),
                 )

@@ -10,7 +10,7 @@ use std::alloc::AllocError;
 
 /// A static rule or a limit that a program breaks, with its place; or want of memory, which says
 /// nothing of the program.
-#[derive(Clone, Copy, PartialEq, Eq, Debug, Drop)]
+#[derive(Clone, Copy, Drop)]
 pub enum TypeFault {
     /// A name that means nothing.
     UnknownName { at: u32 },

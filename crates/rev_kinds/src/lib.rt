@@ -7,7 +7,7 @@ mod kinds;
 mod laws;
 mod names;
 
-pub use expressions::{Seen, right_side_place};
+pub use expressions::{CheckedExpression, right_side_place};
 pub use fault::{TypeFault, first};
 pub use kinds::{alike, array_use, name_kind, not_rev, scalar_use, wants};
 pub use laws::typing_laws;

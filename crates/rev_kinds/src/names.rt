@@ -5,7 +5,7 @@ use rev_num::ValueKind;
 use rev_syntax::Param;
 
 /// A shared variable: the kind of its values, and whether it is an array.
-#[derive(Clone, Copy, PartialEq, Eq, Debug, Drop)]
+#[derive(Clone, Copy, Drop)]
 pub struct Holder {
     pub kind: ValueKind,
     pub array: bool,

@@ -3,7 +3,7 @@ ghost use Rattle.std.specs.Prelude.{◌≡◌};
 ghost use Rattle.rev_messages.specs.Faults.{name_of_file_fault, name_of_instruction_fault};
 
 /// What is wrong with a code file at one of its bytes.
-#[derive(Clone, Copy, PartialEq, Eq, Debug, Drop)]
+#[derive(Clone, Copy, Drop)]
 pub enum FileFault {
     /// The file ends before its last field.
     Truncated,
@@ -27,7 +27,7 @@ impl FileFault {
 }
 
 /// Which rule on code an instruction breaks.
-#[derive(Clone, Copy, PartialEq, Eq, Debug, Drop)]
+#[derive(Clone, Copy, Drop)]
 pub enum InstructionFault {
     /// A target that no jump may have.
     BadJump,

@@ -3,14 +3,14 @@ ghost use Rattle.std.specs.Prelude.{◌≡◌};
 ghost use Rattle.rev_messages.specs.Faults.{name_of_fault};
 
 /// A place of a text: a line and a column, both counted from 1.
-#[derive(Clone, Copy, PartialEq, Eq, Debug, Drop)]
+#[derive(Clone, Copy, Drop)]
 pub struct Place {
     pub line: u32,
     pub column: u32,
 }
 
 /// What is wrong with a text at a place.
-#[derive(Clone, Copy, PartialEq, Eq, Debug, Drop)]
+#[derive(Clone, Copy, Drop)]
 pub enum TextFault {
     /// A byte that begins no token.
     BadByte,

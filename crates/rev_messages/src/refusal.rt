@@ -12,7 +12,7 @@ use rev_report::{Limit, Report, status};
 use std::alloc::{AllocError, Global};
 
 /// Why a call is refused. Bytes, blocks, instructions and entries are counted from 0.
-#[derive(PartialEq, Eq, Debug, Drop)]
+#[derive(Drop)]
 pub enum Refusal {
     /// The words have no reading.
     Usage,

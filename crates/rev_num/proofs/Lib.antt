@@ -1,3 +1,4 @@
+-- Proofs of rev_num: values, checked numbers, paths, traps, outcomes, and sums over lists.
 pub mod PostOrder
 pub mod Decimals
 pub mod Dots

@@ -1,3 +1,4 @@
+-- Definitions of rev_num: values, checked numbers, paths, traps, outcomes, and sums over lists.
 pub mod Arith
 pub mod Decimal
 pub mod Laws

@@ -7,7 +7,7 @@ use std::marker::Model;
 
 /// Elements in a row. Two of them are the same to a contract where they hold the same elements,
 /// wherever these lie in memory.
-#[derive(Debug, Drop)]
+#[derive(Drop)]
 pub struct Items<T> {
     vec: Vec<T>,
 }

@@ -8,7 +8,7 @@ use crate::value::{NumFault, Value};
 use std::alloc::{AllocError, Global};
 
 /// Why a revision trapped.
-#[derive(Clone, Copy, PartialEq, Eq, Debug)]
+#[derive(Clone, Copy, PartialEq, Eq)]
 pub enum Cause {
     Overflow,
     ZeroDivisor,
@@ -27,7 +27,7 @@ pub enum Cause {
 
 /// How a revision trapped: the cause, the line of the statement, and the revision that trapped
 /// first.
-#[derive(PartialEq, Eq, Debug, Drop)]
+#[derive(Drop)]
 pub struct Trap {
     pub cause: Cause,
     pub line: u32,
@@ -48,7 +48,7 @@ impl Trap {
 }
 
 /// A location as a report shows it: the variable's name, the cell of an array, and the value.
-#[derive(PartialEq, Eq, Debug, Drop)]
+#[derive(Drop)]
 pub struct Shown {
     pub name: Bytes,
     pub cell: Option<u32>,
@@ -57,7 +57,7 @@ pub struct Shown {
 
 /// The outcome of a run: what `main` printed, the values of its view, one for each location in
 /// order, and how it ended; or `Twice`, where a revision was joined twice.
-#[derive(PartialEq, Eq, Debug, Drop)]
+#[derive(Drop)]
 pub enum Outcome {
     Done {
         text: Bytes,

@@ -10,7 +10,7 @@ use std::marker::Model;
 
 /// The path of a revision: `main` is the empty path, and the k-th fork of a revision, counted from
 /// 0, has the forker's path and then `k`.
-#[derive(Debug, Drop)]
+#[derive(Drop)]
 pub struct Path {
     forks: Vec<u32>,
 }

@@ -7,7 +7,7 @@ use crate::path::Path;
 use std::alloc::{AllocError, Global};
 
 /// The kind of a value.
-#[derive(Clone, Copy, PartialEq, Eq, Debug)]
+#[derive(Clone, Copy)]
 pub enum ValueKind {
     Int,
     Bool,
@@ -16,7 +16,7 @@ pub enum ValueKind {
 
 /// A value: a signed number of 64 bits, a truth value, or a handle, which is a revision's path or
 /// `none`.
-#[derive(PartialEq, Eq, Debug, Drop)]
+#[derive(PartialEq, Eq, Drop)]
 pub enum Value {
     Int(i64),
     Bool(bool),
@@ -49,7 +49,7 @@ impl Value {
 }
 
 /// Why a number has no value.
-#[derive(Clone, Copy, PartialEq, Eq, Debug)]
+#[derive(Clone, Copy, PartialEq, Eq)]
 pub enum NumFault {
     Overflow,
     ZeroDivisor,

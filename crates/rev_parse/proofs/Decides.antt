@@ -1,7 +1,7 @@
 -- The next token decides the grammar.
 use Rattle.std.proofs.Common.{◌≡◌, ◌||◌, not, Bool, true, false, List, ℕ, refl}
 use Rattle.std.specs.List.{list_all}
-use Rattle.token_grammar.specs.Exact.{extends, is_decided, is_plain, Decided}
+use Rattle.rev_expressions.specs.Exact.{extends, is_decided, is_plain, Decided}
 use Rattle.rev_expressions.specs.Classes.{classes}
 use Rattle.rev_expressions.specs.Grammar.{alphabet, Inner, Operand, Parens, Index, Arguments, Parts, Body, Params, Names, Cells, rank_sign, bracketed, choice, name, name_tail, primary, unary, product, sum, comparison, conjunction, expr, parens, index, arguments, parts}
 use Rattle.rev_expressions.specs.Statements.{block, actual, application, right_side, item, assigned, assignment, arm, else_part, else_parts, let_form, if_form, while_form, call_form, return_form, fork_form, join_form, print_form, assert_form, statement, statements, body}

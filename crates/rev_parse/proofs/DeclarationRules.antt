@@ -6,9 +6,9 @@ use Rattle.rev_syntax.specs.declared.token.TokenKind.{TokenKind}
 use Rattle.rev_syntax.specs.declared.token.TokenKind.TheVariants as k
 use Rattle.rev_syntax.specs.Trees as t
 use Rattle.rev_syntax.specs.Trees.{PlacedName, Statements, Parameter, ArraySize, Declaration, ProgramTree}
-use Rattle.token_grammar.specs.Form.{nothing, level, both}
-use Rattle.token_grammar.specs.Outcome.{Outcome, Read, Failed, Parser, and_then, after, next, Unexpected, TooDeep}
-use Rattle.token_grammar.specs.Reader.{begins, first, nullable, passes, next_kind, is_next, read}
+use Rattle.rev_expressions.specs.Form.{nothing, level, both}
+use Rattle.rev_expressions.specs.Outcome.{Outcome, Read, Failed, Parser, and_then, after, next, Unexpected, TooDeep}
+use Rattle.rev_expressions.specs.Reader.{begins, first, nullable, passes, next_kind, is_next, read}
 use Rattle.rev_syntax.specs.declared.token.Fixed.{Fixed}
 use Rattle.rev_syntax.specs.declared.token.Fixed.TheVariants as s
 use Rattle.rev_expressions.specs.Classes.{Class, is_same}

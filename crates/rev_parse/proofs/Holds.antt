@@ -2,8 +2,8 @@
 -- tokens.
 use Rattle.std.proofs.Common.{◌≡◌, ℕ, zero, suc, ◌+◌, ◌-◌, ◌≤◌, ◌<◌, Bool, true, List, [], ◌∷◌, ◌++◌, length, refl, sym, subst, arith, inl, inr, length-append}
 use Rattle.rev_syntax.specs.declared.token.Token.{Token}
-use Rattle.token_grammar.specs.Outcome.{left}
-use Rattle.token_grammar.specs.Form.{nothing, token, level, both, either, many, Lang, Opened, Many, Derives}
+use Rattle.rev_expressions.specs.Outcome.{left}
+use Rattle.rev_expressions.specs.Form.{nothing, token, level, both, either, many, Lang, Opened, Many, Derives}
 use Rattle.rev_syntax.specs.declared.token.Fixed.{Fixed}
 use Rattle.rev_expressions.specs.Classes.{Class, class_of, is_same}
 use Rattle.rev_expressions.specs.Grammar.{alphabet, Rule, Inner, Value, behind, before, all, listing}

@@ -1,3 +1,4 @@
+-- Proofs of rev_parse: the parser.
 pub mod Complete
 pub mod Decides
 pub mod StatementRules
@@ -7,7 +8,7 @@ pub mod OfAnswer
 pub mod OneVerdict
 pub mod TextTokens
 pub mod Holds
-pub mod SmallValues
+pub mod SizeOfValues
 pub mod SmallExpressions
 pub mod SmallStatements
 pub mod SmallPrograms

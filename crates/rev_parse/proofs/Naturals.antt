@@ -10,9 +10,9 @@ use Rattle.rev_syntax.specs.declared.token.TokenKind.{TokenKind}
 use Rattle.rev_syntax.specs.Tokens.{Spells, IsToken}
 use Rattle.rev_syntax.specs.declared.token.Token.{Token}
 use Rattle.rev_syntax.specs.declared.token.TokenKind.TheVariants as k
-use Rattle.token_grammar.specs.Form.{nothing, token, level, both, either, many}
-use Rattle.token_grammar.specs.Outcome.{Outcome, Read, Failed, Parser, and_then, after, next, Unexpected}
-use Rattle.token_grammar.specs.Reader.{Inside, begins, inside_of, read, repeat, below, taken}
+use Rattle.rev_expressions.specs.Form.{nothing, token, level, both, either, many}
+use Rattle.rev_expressions.specs.Outcome.{Outcome, Read, Failed, Parser, and_then, after, next, Unexpected}
+use Rattle.rev_expressions.specs.Reader.{Inside, begins, inside_of, read, repeat, below, taken}
 use Rattle.rev_expressions.specs.Classes.{Class, class_of, is_same}
 use Rattle.rev_expressions.specs.Source.{int_of}
 use Rattle.rev_expressions.specs.Grammar.{alphabet, Rule, Inner, Value}

@@ -2,13 +2,13 @@
 use Rattle.std.proofs.Common.{◌≡◌, ◌≢◌, ℕ, List, [], ◌∷◌, length, drop, Ok, Err, Result, refl, sym, ap, ◌∙◌, subst, arith}
 use Rattle.rev_syntax.specs.Trees.{ProgramTree}
 use Rattle.rev_syntax.specs.declared.token.Token.{Token}
-use Rattle.token_grammar.specs.Outcome.{Outcome, Read, Failed, Unexpected, TooDeep}
-use Rattle.token_grammar.specs.Theorem as theorem
-use Rattle.token_grammar.proofs.Whole as whole
+use Rattle.rev_expressions.specs.Outcome.{Outcome, Read, Failed, Unexpected, TooDeep}
+use Rattle.rev_expressions.specs.Theorem as theorem
+use Rattle.rev_expressions.proofs.Whole as whole
 use Rattle.rev_syntax.specs.View.{program as view}
 use Rattle.rev_syntax.specs.declared.tree.Program.{Program}
-use Rattle.rev_expressions.specs.declared.cursor.Fault.{Fault}
-use Rattle.rev_expressions.specs.declared.cursor.Fault.TheVariants as f
+use Rattle.rev_expressions.specs.declared.cursor.TreeFault.{TreeFault}
+use Rattle.rev_expressions.specs.declared.cursor.TreeFault.TheVariants as f
 use Rattle.rev_expressions.specs.Reads.{Reads, stop_of}
 use Rattle.rev_expressions.specs.Classes.{classes}
 use Rattle.rev_expressions.specs.Grammar.{alphabet}
@@ -54,7 +54,7 @@ module _ (bytes : List ℕ) (ts : List Token) where
 
 -- ---- the same of the result of the code, which reads these bytes
 
-module _ (bytes b : List ℕ) (ts : List Token) (same : b ≡ bytes) (r : Result Program Fault) (rest : List Token)
+module _ (bytes b : List ℕ) (ts : List Token) (same : b ≡ bytes) (r : Result Program TreeFault) (rest : List Token)
     (h : Reads (parse b most_levels (program b) ts) view r rest) where
   here : Reads (parse bytes most_levels (program bytes) ts) view r rest
   here = subst (λ b. Reads (parse b most_levels (program b) ts) view r rest) same h
@@ -62,7 +62,7 @@ module _ (bytes b : List ℕ) (ts : List Token) (same : b ≡ bytes) (r : Result
   read_is : (p : Program) → r ≡ Ok p → parse bytes most_levels (program bytes) ts ≡ Read (view p) rest
   read_is p is = subst (λ r. Reads (parse bytes most_levels (program bytes) ts) view r rest) is here
 
-  failed_is : (x : Fault) → r ≡ Err x → x ≢ f.OutOfMemory
+  failed_is : (x : TreeFault) → r ≡ Err x → x ≢ f.OutOfMemory
       → parse bytes most_levels (program bytes) ts ≡ Failed (stop_of x) rest
   failed_is x is known =
       let k : x ≢ f.OutOfMemory → parse bytes most_levels (program bytes) ts ≡ Failed (stop_of x) rest =

@@ -1,7 +1,7 @@
 -- The tokens of a text have one verdict at most.
 use Rattle.std.proofs.Common.{◌≡◌, ℕ, List, drop, sym, ap, ◌∙◌}
 use Rattle.rev_syntax.specs.declared.token.Token.{Token}
-use Rattle.token_grammar.proofs.OneVerdict.{one_value, value_not_unexpected, value_not_too_deep, unexpected_not_too_deep, one_unexpected, one_too_deep}
+use Rattle.rev_expressions.proofs.OneVerdict.{one_value, value_not_unexpected, value_not_too_deep, unexpected_not_too_deep, one_unexpected, one_too_deep}
 use Rattle.rev_expressions.specs.Grammar.{alphabet}
 use Rattle.rev_expressions.specs.Declarations.{inner, program}
 use Rattle.rev_parse.specs.Verdicts.{most_levels, At, place_of, tree, unexpected, too_deep, OneVerdict}

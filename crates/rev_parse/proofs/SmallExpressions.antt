@@ -10,7 +10,7 @@ use Rattle.rev_syntax.specs.declared.tree.UnaryOp.TheVariants as u
 use Rattle.rev_syntax.specs.declared.tree.BinaryOp.{BinaryOp}
 use Rattle.rev_syntax.specs.Small.{expression_count, links_count, nodes_around, nodes_around_links, chains_around, chains_around_links, name_formed, expression_formed, links_formed, strength, all_bind, is_chain, expression_small}
 use Rattle.rev_syntax.specs.declared.token.Token.{Token}
-use Rattle.token_grammar.specs.Form.{token, level, both, Lang}
+use Rattle.rev_expressions.specs.Form.{token, level, both, Lang}
 use Rattle.rev_expressions.specs.Classes as class
 use Rattle.rev_expressions.specs.Classes.{Class}
 use Rattle.rev_expressions.specs.declared.expression.Rank.{Rank}
@@ -21,7 +21,7 @@ use Rattle.rev_expressions.specs.Source.{word_of}
 use Rattle.rev_expressions.specs.Grammar.{alphabet, Rule, Inner, Value, Operand, Index, Parts, place, moved, joined, operator, linked, rank_sign, is_single, links_by, bracketed, choice, name, name_tail, primary, unary, product, sum, comparison, conjunction, expr, parens, index, arguments, parts}
 use Rattle.rev_parse.specs.Verdicts.{most_levels}
 use Rattle.rev_parse.proofs.TextTokens.{IsProper, span, proper_name, word_length}
-use Rattle.rev_parse.proofs.SmallValues.{IsSmallName, IsSmallExpression, AreSmallArguments, AreSmallParts, IsSome, Has}
+use Rattle.rev_parse.proofs.SizeOfValues.{IsSmallName, IsSmallExpression, AreSmallArguments, AreSmallParts, IsSome, Has}
 use Rattle.rev_parse.proofs.Holds.{Within, Grows, GrowsTo, holds_within, holds_before, holds_listing, Holds, Inside, holds_nothing, holds_token, holds_both, holds_either, holds_many, holds_level}
 
 -- how tightly the operators of a rank bind

@@ -9,7 +9,7 @@ use Rattle.rev_syntax.specs.Trees as t
 use Rattle.rev_syntax.specs.Trees.{PlacedName, Expression, Parameter, ArraySize, Constant, Declaration, ProgramTree}
 use Rattle.rev_syntax.specs.Small.{name_count, expression_count, parameters_count, by_count, declaration_count, declarations_count, count, name_formed, expression_small, statements_small, parameter_formed, by_formed, size_formed, value_formed, first_formed, declaration_small, greatest}
 use Rattle.rev_syntax.specs.declared.token.Token.{Token}
-use Rattle.token_grammar.specs.Form.{level, Lang, Nested, AnyNested}
+use Rattle.rev_expressions.specs.Form.{level, Lang, Nested, AnyNested}
 use Rattle.rev_syntax.specs.declared.token.Fixed.{Fixed}
 use Rattle.rev_syntax.specs.declared.token.Fixed.TheVariants as s
 use Rattle.rev_expressions.specs.Source.{int_of}
@@ -19,7 +19,7 @@ use Rattle.rev_parse.specs.SmallTree.{IsSmallTree}
 use Rattle.rev_parse.specs.Verdicts.{most_levels, IsProgram}
 use Rattle.rev_parse.proofs.TextTokens.{IsNumber, text_tokens, text_spans, proper_number, spans}
 use Rattle.rev_parse.proofs.Holds.{Property, Grows, Weighs, Holds, Inside, holds_nothing, holds_token, holds_both, holds_either, holds_as, holds_any, holds_behind, holds_before, holds_all, holds_listing, holds_within}
-use Rattle.rev_parse.proofs.SmallValues.{IsSmallName, IsSmallBlock, AreSmallParameters, AreSmallNames, IsSmallArraySize, Has}
+use Rattle.rev_parse.proofs.SizeOfValues.{IsSmallName, IsSmallBlock, AreSmallParameters, AreSmallNames, IsSmallArraySize, Has}
 use Rattle.rev_parse.proofs.SmallExpressions.{holds_name, holds_unary, holds_parens, holds_inner_index, holds_arguments, holds_parts}
 use Rattle.rev_parse.proofs.SmallStatements.{IsShallow, holds_shallow, holds_block, holds_body}
 use Rattle.rev_expressions.specs.Classes as class

@@ -7,7 +7,7 @@ use Rattle.rev_syntax.specs.Trees.{PlacedName, Expression, RightSide, PrintItem,
 use Rattle.rev_syntax.specs.View.{expressions_of, statements_of, arms_of, choice}
 use Rattle.rev_syntax.specs.Small.{name_count, expression_count, expressions_count, right_side_count, item_count, items_count, statement_count, statement_form_count, statements_count, arms_count, name_formed, expression_small, expressions_small, right_side_small, item_small, statement_small, statement_form_small, statements_small, arms_small}
 use Rattle.rev_syntax.specs.declared.token.Token.{Token}
-use Rattle.token_grammar.specs.Form.{Lang}
+use Rattle.rev_expressions.specs.Form.{Lang}
 use Rattle.rev_syntax.specs.declared.token.Fixed.{Fixed}
 use Rattle.rev_syntax.specs.declared.token.Fixed.TheVariants as s
 use Rattle.rev_expressions.specs.Classes as class
@@ -17,7 +17,7 @@ use Rattle.rev_expressions.specs.Statements.{Else, Test, Last, is_last, tests_of
 use Rattle.rev_parse.specs.Verdicts.{most_levels}
 use Rattle.rev_parse.proofs.TextTokens.{proper_name, proper_text, text_length}
 use Rattle.rev_parse.proofs.Holds.{Property, Grows, GrowsTo, Within, Holds, Inside, holds_nothing, holds_token, holds_both, holds_either, holds_many, holds_as, holds_any, holds_behind, holds_before, holds_all, holds_listing, holds_within}
-use Rattle.rev_parse.proofs.SmallValues.{IsSmallName, IsSmallExpression, IsSmallBlock, Has}
+use Rattle.rev_parse.proofs.SizeOfValues.{IsSmallName, IsSmallExpression, IsSmallBlock, Has}
 use Rattle.rev_parse.proofs.SmallExpressions.{name_small, expression_is_small, holds_place, holds_name, holds_index, holds_expr}
 
 -- ---- the properties

@@ -2,9 +2,9 @@
 use Rattle.std.proofs.Common.{ℕ, List, [], ◌∷◌, drop, refl}
 use Rattle.rev_syntax.specs.Trees.{ProgramTree}
 use Rattle.rev_syntax.specs.declared.token.Token.{Token}
-use Rattle.token_grammar.specs.Outcome.{Outcome, Read, Failed, Unexpected, TooDeep}
-use Rattle.token_grammar.specs.Theorem as theorem
-use Rattle.token_grammar.proofs.Whole as whole
+use Rattle.rev_expressions.specs.Outcome.{Outcome, Read, Failed, Unexpected, TooDeep}
+use Rattle.rev_expressions.specs.Theorem as theorem
+use Rattle.rev_expressions.proofs.Whole as whole
 use Rattle.rev_expressions.specs.Classes.{classes}
 use Rattle.rev_expressions.specs.Grammar.{alphabet}
 use Rattle.rev_expressions.specs.Declarations.{inner, program}

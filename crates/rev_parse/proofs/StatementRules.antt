@@ -10,9 +10,9 @@ use Rattle.rev_syntax.specs.declared.token.Fixed.TheVariants as s
 use Rattle.rev_expressions.specs.Classes.{Class, is_same}
 use Rattle.rev_expressions.specs.Source.{word_of, text_of}
 use Rattle.rev_syntax.specs.Places.{line_of}
-use Rattle.token_grammar.specs.Outcome.{Outcome, Read, Failed, and_then, after, next, Unexpected}
-use Rattle.token_grammar.specs.Form.{both, nothing}
-use Rattle.token_grammar.specs.Reader.{begins, first, nullable, passes, next_kind, is_next, read}
+use Rattle.rev_expressions.specs.Outcome.{Outcome, Read, Failed, and_then, after, next, Unexpected}
+use Rattle.rev_expressions.specs.Form.{both, nothing}
+use Rattle.rev_expressions.specs.Reader.{begins, first, nullable, passes, next_kind, is_next, read}
 use Rattle.rev_expressions.specs.Grammar.{alphabet, Arguments, Body, rank_sign, bracketed, choice as choice_form, name, name_tail, primary, unary, product, sum, comparison, conjunction, expr, arguments, listed, listing, sign}
 use Rattle.rev_expressions.specs.Statements.{Else, Test, Last, is_last, tests_of, last_of, conditional, block, actual, application, right_side, item, assigned, assignment, arm, else_choice, else_part, else_parts, let_form, if_form, while_form, call_form, return_form, fork_form, join_form, print_form, assert_form, statement, statements, body}
 use Rattle.rev_expressions.specs.Declarations.{inner}

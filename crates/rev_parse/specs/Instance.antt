@@ -7,8 +7,8 @@ use Rattle.std.specs.Prelude.{◌≡◌, ℕ, Bool, true, false, List, ◌||◌}
 use Rattle.std.specs.List.{list_all}
 use Rattle.rev_syntax.specs.declared.token.Fixed.TheVariants as s
 use Rattle.rev_syntax.specs.declared.token.Token.{Token}
-use Rattle.token_grammar.specs.Exact.{extends, is_decided, is_plain, Decided}
-use Rattle.token_grammar.specs.Theorem.{Verdict}
+use Rattle.rev_expressions.specs.Exact.{extends, is_decided, is_plain, Decided}
+use Rattle.rev_expressions.specs.Theorem.{Verdict}
 use Rattle.rev_expressions.specs.Classes.{Class, is_same, classes}
 use Rattle.rev_expressions.specs.Classes as class
 use Rattle.rev_expressions.specs.Grammar.{alphabet, Inner, Operand}

@@ -1,3 +1,4 @@
+-- Definitions of rev_parse: the parser.
 pub mod Instance
 pub mod Parsing
 pub mod Parts

@@ -5,8 +5,8 @@ use Rattle.rev_syntax.specs.View.{arms_of, choice}
 use Rattle.rev_syntax.specs.declared.token.Token.{Token}
 use Rattle.rev_syntax.specs.declared.token.TokenKind.{TokenKind}
 use Rattle.rev_syntax.specs.declared.token.TokenKind.TheVariants as k
-use Rattle.token_grammar.specs.Outcome.{Outcome, Parser, Read, Failed, Unexpected, and_then, after}
-use Rattle.token_grammar.specs.Reader.{begins, repeat}
+use Rattle.rev_expressions.specs.Outcome.{Outcome, Parser, Read, Failed, Unexpected, and_then, after}
+use Rattle.rev_expressions.specs.Reader.{begins, repeat}
 use Rattle.rev_expressions.specs.Grammar.{alphabet}
 use Rattle.rev_syntax.specs.Places.{line_of}
 use Rattle.rev_expressions.specs.Statements.{Else, Test, Last, is_last, tests_of, last_of, else_part, let_form, if_form, while_form, call_form, return_form, fork_form, join_form, print_form, assert_form, assignment, statement, item}

@@ -7,9 +7,9 @@ use Rattle.rev_syntax.specs.declared.token.Token.{Token}
 use Rattle.rev_syntax.specs.declared.tree.Param.{Param}
 use Rattle.rev_syntax.specs.Trees.{PlacedName, Parameter, Constant, ArraySize}
 use Rattle.rev_syntax.specs.View as view
-use Rattle.token_grammar.specs.Form.{token, level, both}
-use Rattle.token_grammar.specs.Outcome.{Outcome, Parser, Read, and_then}
-use Rattle.token_grammar.specs.Reader.{begins}
+use Rattle.rev_expressions.specs.Form.{token, level, both}
+use Rattle.rev_expressions.specs.Outcome.{Outcome, Parser, Read, and_then}
+use Rattle.rev_expressions.specs.Reader.{begins}
 use Rattle.rev_syntax.specs.declared.token.Fixed.TheVariants as s
 use Rattle.rev_expressions.specs.Source.{int_of}
 use Rattle.rev_expressions.specs.Grammar.{alphabet, Rule, Names, sign}

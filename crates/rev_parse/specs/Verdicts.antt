@@ -2,7 +2,7 @@
 use Rattle.std.specs.Prelude.{◌≡◌, ℕ, List, [], ◌∷◌, length, drop}
 use Rattle.rev_syntax.specs.Trees.{ProgramTree}
 use Rattle.rev_syntax.specs.declared.token.Token.{Token}
-use Rattle.token_grammar.specs.First as first
+use Rattle.rev_expressions.specs.First as first
 use Rattle.rev_expressions.specs.Grammar.{alphabet}
 use Rattle.rev_expressions.specs.Declarations.{inner, program}
 -- how many levels may be open at once

@@ -1,4 +1,4 @@
-// Declarations and programs.
+//! The parser of declarations and programs.
 ghost use Rattle.std.specs.Prelude.{◌≡◌, ◌≤ℤ◌, ◌++◌, [], ◌∷◌, OnOk, pos, neg_ℤ, map, option_map};
 ghost use Rattle.std.specs.Prelude.{length};
 ghost use Rattle.rev_expressions.specs.Grammar as g;
@@ -13,7 +13,7 @@ ghost use Rattle.rev_parse.specs.Pieces.{AreNatural, plain, declaration_begins};
 ghost use Rattle.rev_syntax.specs.View as view;
 
 use crate::statement::block;
-use rev_expressions::{Cursor, Fault, Source, expr, name, within};
+use rev_expressions::{Cursor, SourceText, TreeFault, expr, name, within};
 use rev_num::{Value, ValueKind};
 use rev_syntax::{Const, Decl, Expr, Fixed, Name, Param, Program, Size, TokenKind};
 use std::alloc::AllocError;
@@ -49,13 +49,13 @@ struct Versions {
 }
 
 /// Reads a kind.
-#[tactic(auto, unfolding(token_grammar::specs::Reader::read, rev_expressions::specs::Declarations::kind))]
-fn kind(cursor: &mut Cursor<'_>) -> Result<KindAt, Fault>
+#[tactic(auto, unfolding(rev_expressions::specs::Reader::read, rev_expressions::specs::Declarations::kind))]
+fn kind(cursor: &mut Cursor<'_>) -> Result<KindAt, TreeFault>
     ensures { Reads
         (plain spec.kind cursor.old.rest.now) pieces.kind_at result cursor.new.rest.now }
 {
     let Some(token) = cursor.peek() else {
-        return Err(Fault::Unexpected);
+        return Err(TreeFault::Unexpected);
     };
     let at = token.start;
     match token.kind {
@@ -80,19 +80,19 @@ fn kind(cursor: &mut Cursor<'_>) -> Result<KindAt, Fault>
                 kind: ValueKind::Rev,
             })
         }
-        _ => Err(Fault::Unexpected),
+        _ => Err(TreeFault::Unexpected),
     }
 }
 
 /// A start value.
-#[tactic(auto, unfolding(token_grammar::specs::Reader::read, rev_expressions::specs::Declarations::constant))]
-fn constant(cursor: &mut Cursor<'_>) -> Result<Const, Fault>
+#[tactic(auto, unfolding(rev_expressions::specs::Reader::read, rev_expressions::specs::Declarations::constant))]
+fn constant(cursor: &mut Cursor<'_>) -> Result<Const, TreeFault>
     requires { AreNatural cursor.old.rest.now }
     ensures { Reads
         (plain spec.constant cursor.old.rest.now) view.constant result cursor.new.rest.now }
 {
     let Some(token) = cursor.peek() else {
-        return Err(Fault::Unexpected);
+        return Err(TreeFault::Unexpected);
     };
     let at = token.start;
     match token.kind {
@@ -128,7 +128,7 @@ fn constant(cursor: &mut Cursor<'_>) -> Result<Const, Fault>
                 value: Value::Rev(None),
             })
         }
-        _ => Err(Fault::Unexpected),
+        _ => Err(TreeFault::Unexpected),
     }
 }
 
@@ -141,15 +141,15 @@ fn negated(n: i64) -> i64
 }
 
 /// A number behind a minus sign, which stands at this place.
-#[tactic(auto, unfolding(token_grammar::specs::Reader::read, crate::specs::Pieces::number))]
-fn negative(cursor: &mut Cursor<'_>, at: u32) -> Result<Const, Fault>
+#[tactic(auto, unfolding(rev_expressions::specs::Reader::read, crate::specs::Pieces::number))]
+fn negative(cursor: &mut Cursor<'_>, at: u32) -> Result<Const, TreeFault>
     requires { AreNatural cursor.old.rest.now }
     ensures { Reads
         (pieces.negative_of at (plain pieces.number cursor.old.rest.now)) view.constant result
         cursor.new.rest.now }
 {
     let Some(token) = cursor.peek() else {
-        return Err(Fault::Unexpected);
+        return Err(TreeFault::Unexpected);
     };
     match token.kind {
         TokenKind::Int(n) => {
@@ -159,13 +159,13 @@ fn negative(cursor: &mut Cursor<'_>, at: u32) -> Result<Const, Fault>
                 value: Value::Int(negated(n)),
             })
         }
-        _ => Err(Fault::Unexpected),
+        _ => Err(TreeFault::Unexpected),
     }
 }
 
 /// The first value of a variable, if one is given.
 #[tactic(auto, using(crate::proofs::DeclarationRules::first_value_cases))]
-fn first_value(cursor: &mut Cursor<'_>) -> Result<Option<Const>, Fault>
+fn first_value(cursor: &mut Cursor<'_>) -> Result<Option<Const>, TreeFault>
     requires { AreNatural cursor.old.rest.now }
     ensures { Reads (plain spec.first_value cursor.old.rest.now)
         (option_map view.constant) result cursor.new.rest.now }
@@ -179,13 +179,13 @@ fn first_value(cursor: &mut Cursor<'_>) -> Result<Option<Const>, Fault>
 }
 
 /// A number of cells.
-#[tactic(auto, unfolding(token_grammar::specs::Reader::read, crate::specs::Pieces::count))]
-fn count(cursor: &mut Cursor<'_>) -> Result<Size, Fault>
+#[tactic(auto, unfolding(rev_expressions::specs::Reader::read, crate::specs::Pieces::count))]
+fn count(cursor: &mut Cursor<'_>) -> Result<Size, TreeFault>
     ensures { Reads
         (plain pieces.count cursor.old.rest.now) view.array_size result cursor.new.rest.now }
 {
     let Some(token) = cursor.peek() else {
-        return Err(Fault::Unexpected);
+        return Err(TreeFault::Unexpected);
     };
     match token.kind {
         TokenKind::Int(cells) => {
@@ -195,13 +195,13 @@ fn count(cursor: &mut Cursor<'_>) -> Result<Size, Fault>
                 cells,
             })
         }
-        _ => Err(Fault::Unexpected),
+        _ => Err(TreeFault::Unexpected),
     }
 }
 
 /// The number of cells of an array behind its opening bracket.
 #[tactic(auto, using(crate::proofs::DeclarationRules::cells_are))]
-fn cells(cursor: &mut Cursor<'_>) -> Result<Size, Fault>
+fn cells(cursor: &mut Cursor<'_>) -> Result<Size, TreeFault>
     ensures { Reads
         (plain spec.cells cursor.old.rest.now) view.array_size result cursor.new.rest.now }
 {
@@ -212,7 +212,7 @@ fn cells(cursor: &mut Cursor<'_>) -> Result<Size, Fault>
 
 /// The size of a variable, if it is an array.
 #[tactic(auto, using(crate::proofs::DeclarationRules::size_cases))]
-fn size(cursor: &mut Cursor<'_>, levels: u32) -> Result<Option<Size>, Fault>
+fn size(cursor: &mut Cursor<'_>, levels: u32) -> Result<Option<Size>, TreeFault>
     ensures { Reads (parse [] levels spec.size cursor.old.rest.now)
         (option_map view.array_size) result cursor.new.rest.now }
 {
@@ -227,7 +227,7 @@ fn size(cursor: &mut Cursor<'_>, levels: u32) -> Result<Option<Size>, Fault>
 
 /// A parameter.
 #[tactic(auto, using(crate::proofs::DeclarationRules::param_is))]
-fn param(source: &Source<'_>, cursor: &mut Cursor<'_>, levels: u32) -> Result<Param, Fault>
+fn param(source: &SourceText<'_>, cursor: &mut Cursor<'_>, levels: u32) -> Result<Param, TreeFault>
     ensures { Parses spec.param source.now levels cursor.old view.parameter result cursor.new }
 {
     let name = name(source, cursor, levels)?;
@@ -252,11 +252,11 @@ fn push_param(params: &mut Vec<Param>, param: Param) -> Result<(), AllocError>
 /// The parameters behind the first, each behind a comma.
 #[tactic(auto, using(rev_expressions::proofs::Lists::comma_turns))]
 fn more_params(
-    source: &Source<'_>,
+    source: &SourceText<'_>,
     cursor: &mut Cursor<'_>,
     levels: u32,
     params: Vec<Param>,
-) -> Result<Vec<Param>, Fault>
+) -> Result<Vec<Param>, TreeFault>
     ensures { ParsesBy
         (λ b n ts. more_listed b n (spec.param b) (length ts) (pieces.parameters params.items) ts)
         source.now levels cursor.old (λ ps. pieces.parameters ps.items) result cursor.new }
@@ -274,10 +274,10 @@ fn more_params(
 }
 
 fn some_params(
-    source: &Source<'_>,
+    source: &SourceText<'_>,
     cursor: &mut Cursor<'_>,
     levels: u32,
-) -> Result<Vec<Param>, Fault>
+) -> Result<Vec<Param>, TreeFault>
     ensures { Parses (λ b. g.listing (spec.param b))
         source.now levels cursor.old (λ ps. pieces.parameters ps.items) result cursor.new }
 {
@@ -292,7 +292,11 @@ fn some_params(
 
 /// Parameters behind their opening parenthesis.
 #[tactic(auto, using(crate::proofs::DeclarationRules::params_are))]
-fn params(source: &Source<'_>, cursor: &mut Cursor<'_>, levels: u32) -> Result<Vec<Param>, Fault>
+fn params(
+    source: &SourceText<'_>,
+    cursor: &mut Cursor<'_>,
+    levels: u32,
+) -> Result<Vec<Param>, TreeFault>
     ensures { Parses spec.params
         source.now levels cursor.old (λ ps. pieces.parameters ps.items) result cursor.new }
 {
@@ -303,12 +307,16 @@ fn params(source: &Source<'_>, cursor: &mut Cursor<'_>, levels: u32) -> Result<V
 
 /// The parameters of a fun or a procedure, in their parentheses.
 #[tactic(auto, using(crate::proofs::DeclarationRules::formal_cases))]
-fn formal(source: &Source<'_>, cursor: &mut Cursor<'_>, levels: u32) -> Result<Vec<Param>, Fault>
+fn formal(
+    source: &SourceText<'_>,
+    cursor: &mut Cursor<'_>,
+    levels: u32,
+) -> Result<Vec<Param>, TreeFault>
     ensures { Parses spec.formal
         source.now levels cursor.old (λ ps. pieces.parameters ps.items) result cursor.new }
 {
     if !cursor.is_at(Fixed::OpenParen) {
-        return Err(Fault::Unexpected);
+        return Err(TreeFault::Unexpected);
     }
     let inner = within(levels)?;
     cursor.advance();
@@ -317,7 +325,11 @@ fn formal(source: &Source<'_>, cursor: &mut Cursor<'_>, levels: u32) -> Result<V
 
 /// The three names of a merge behind their opening parenthesis.
 #[tactic(auto, using(crate::proofs::DeclarationRules::names_are))]
-fn names(source: &Source<'_>, cursor: &mut Cursor<'_>, levels: u32) -> Result<Versions, Fault>
+fn names(
+    source: &SourceText<'_>,
+    cursor: &mut Cursor<'_>,
+    levels: u32,
+) -> Result<Versions, TreeFault>
     ensures { Parses spec.names source.now levels cursor.old pieces.versions result cursor.new }
 {
     let main = name(source, cursor, levels)?;
@@ -331,12 +343,16 @@ fn names(source: &Source<'_>, cursor: &mut Cursor<'_>, levels: u32) -> Result<Ve
 
 /// The three names of a merge, in their parentheses.
 #[tactic(auto, using(crate::proofs::DeclarationRules::three_names_cases))]
-fn three_names(source: &Source<'_>, cursor: &mut Cursor<'_>, levels: u32) -> Result<Versions, Fault>
+fn three_names(
+    source: &SourceText<'_>,
+    cursor: &mut Cursor<'_>,
+    levels: u32,
+) -> Result<Versions, TreeFault>
     ensures { Parses (λ _. pieces.three_names)
         source.now levels cursor.old pieces.versions result cursor.new }
 {
     if !cursor.is_at(Fixed::OpenParen) {
-        return Err(Fault::Unexpected);
+        return Err(TreeFault::Unexpected);
     }
     let inner = within(levels)?;
     cursor.advance();
@@ -345,7 +361,7 @@ fn three_names(source: &Source<'_>, cursor: &mut Cursor<'_>, levels: u32) -> Res
 
 /// A name with its parameters.
 #[tactic(auto, using(crate::proofs::DeclarationRules::head_is))]
-fn head(source: &Source<'_>, cursor: &mut Cursor<'_>, levels: u32) -> Result<Heading, Fault>
+fn head(source: &SourceText<'_>, cursor: &mut Cursor<'_>, levels: u32) -> Result<Heading, TreeFault>
     ensures { Parses spec.head source.now levels cursor.old pieces.heading result cursor.new }
 {
     let name = name(source, cursor, levels)?;
@@ -355,7 +371,7 @@ fn head(source: &Source<'_>, cursor: &mut Cursor<'_>, levels: u32) -> Result<Hea
 
 /// The expression that a fun or a merge stands for, between `=` and `;`.
 #[tactic(auto, using(crate::proofs::DeclarationRules::meaning_is))]
-fn meaning(source: &Source<'_>, cursor: &mut Cursor<'_>, levels: u32) -> Result<Expr, Fault>
+fn meaning(source: &SourceText<'_>, cursor: &mut Cursor<'_>, levels: u32) -> Result<Expr, TreeFault>
     ensures { Parses spec.meaning source.now levels cursor.old view.expression result cursor.new }
 {
     cursor.expect(Fixed::Assign)?;
@@ -366,7 +382,7 @@ fn meaning(source: &Source<'_>, cursor: &mut Cursor<'_>, levels: u32) -> Result<
 
 /// What follows the word `fun`.
 #[tactic(auto, using(crate::proofs::DeclarationRules::fun_is))]
-fn fun(source: &Source<'_>, cursor: &mut Cursor<'_>, levels: u32) -> Result<Decl, Fault>
+fn fun(source: &SourceText<'_>, cursor: &mut Cursor<'_>, levels: u32) -> Result<Decl, TreeFault>
     ensures { Parses spec.fun_form source.now levels cursor.old view.declaration result cursor.new }
 {
     let head = head(source, cursor, levels)?;
@@ -383,7 +399,7 @@ fn fun(source: &Source<'_>, cursor: &mut Cursor<'_>, levels: u32) -> Result<Decl
 
 /// What follows the word `merge`.
 #[tactic(auto, using(crate::proofs::DeclarationRules::merge_is))]
-fn merge(source: &Source<'_>, cursor: &mut Cursor<'_>, levels: u32) -> Result<Decl, Fault>
+fn merge(source: &SourceText<'_>, cursor: &mut Cursor<'_>, levels: u32) -> Result<Decl, TreeFault>
     ensures { Parses spec.merge_form
         source.now levels cursor.old view.declaration result cursor.new }
 {
@@ -401,7 +417,11 @@ fn merge(source: &Source<'_>, cursor: &mut Cursor<'_>, levels: u32) -> Result<De
 
 /// A shared variable with its kind, and its size if it is an array.
 #[tactic(auto, using(crate::proofs::DeclarationRules::variable_is))]
-fn variable(source: &Source<'_>, cursor: &mut Cursor<'_>, levels: u32) -> Result<Typed, Fault>
+fn variable(
+    source: &SourceText<'_>,
+    cursor: &mut Cursor<'_>,
+    levels: u32,
+) -> Result<Typed, TreeFault>
     ensures { Parses spec.variable source.now levels cursor.old pieces.typed result cursor.new }
 {
     let name = name(source, cursor, levels)?;
@@ -428,7 +448,11 @@ fn shared(variable: Typed, by: Option<Name>, first: Option<Const>) -> Decl
 
 /// What follows the word `versioned`.
 #[tactic(auto, using(crate::proofs::DeclarationRules::versioned_is))]
-fn versioned(source: &Source<'_>, cursor: &mut Cursor<'_>, levels: u32) -> Result<Decl, Fault>
+fn versioned(
+    source: &SourceText<'_>,
+    cursor: &mut Cursor<'_>,
+    levels: u32,
+) -> Result<Decl, TreeFault>
     requires { AreNatural cursor.old.rest.now }
     ensures { Parses spec.versioned_form
         source.now levels cursor.old view.declaration result cursor.new }
@@ -441,7 +465,11 @@ fn versioned(source: &Source<'_>, cursor: &mut Cursor<'_>, levels: u32) -> Resul
 
 /// What follows the word `cumulative`.
 #[tactic(auto, using(crate::proofs::DeclarationRules::cumulative_is))]
-fn cumulative(source: &Source<'_>, cursor: &mut Cursor<'_>, levels: u32) -> Result<Decl, Fault>
+fn cumulative(
+    source: &SourceText<'_>,
+    cursor: &mut Cursor<'_>,
+    levels: u32,
+) -> Result<Decl, TreeFault>
     requires { AreNatural cursor.old.rest.now }
     ensures { Parses spec.cumulative_form
         source.now levels cursor.old view.declaration result cursor.new }
@@ -456,7 +484,7 @@ fn cumulative(source: &Source<'_>, cursor: &mut Cursor<'_>, levels: u32) -> Resu
 
 /// The kind that a procedure returns, if it is given.
 #[tactic(auto, using(crate::proofs::DeclarationRules::result_kind_cases))]
-fn result_kind(cursor: &mut Cursor<'_>) -> Result<Option<ValueKind>, Fault>
+fn result_kind(cursor: &mut Cursor<'_>) -> Result<Option<ValueKind>, TreeFault>
     ensures { Reads (plain pieces.result_kind cursor.old.rest.now) same result cursor.new.rest.now }
 {
     if !cursor.is_at(Fixed::Colon) {
@@ -469,7 +497,11 @@ fn result_kind(cursor: &mut Cursor<'_>) -> Result<Option<ValueKind>, Fault>
 
 /// What follows the word `proc`.
 #[tactic(auto, using(crate::proofs::DeclarationRules::proc_is))]
-fn procedure(source: &Source<'_>, cursor: &mut Cursor<'_>, levels: u32) -> Result<Decl, Fault>
+fn procedure(
+    source: &SourceText<'_>,
+    cursor: &mut Cursor<'_>,
+    levels: u32,
+) -> Result<Decl, TreeFault>
     ensures { Parses spec.proc_form
         source.now levels cursor.old view.declaration result cursor.new }
 {
@@ -485,13 +517,17 @@ fn procedure(source: &Source<'_>, cursor: &mut Cursor<'_>, levels: u32) -> Resul
 }
 
 /// A declaration. No number of the tokens is negative.
-pub fn declaration(source: &Source<'_>, cursor: &mut Cursor<'_>, levels: u32) -> Result<Decl, Fault>
+pub fn declaration(
+    source: &SourceText<'_>,
+    cursor: &mut Cursor<'_>,
+    levels: u32,
+) -> Result<Decl, TreeFault>
     requires { AreNatural cursor.old.rest.now }
     ensures { Parses spec.declaration
         source.now levels cursor.old view.declaration result cursor.new }
 {
     let Some(token) = cursor.peek() else {
-        return Err(Fault::Unexpected);
+        return Err(TreeFault::Unexpected);
     };
     match token.kind {
         TokenKind::Fixed(Fixed::Fun) => {
@@ -514,7 +550,7 @@ pub fn declaration(source: &Source<'_>, cursor: &mut Cursor<'_>, levels: u32) ->
             cursor.advance();
             procedure(source, cursor, levels)
         }
-        _ => Err(Fault::Unexpected),
+        _ => Err(TreeFault::Unexpected),
     }
 }
 
@@ -548,10 +584,10 @@ fn push_decl(decls: &mut Vec<Decl>, decl: Decl) -> Result<(), AllocError>
 /// The declarations up to the first token that begins none. No number of the tokens is negative.
 #[tactic(auto, using(crate::proofs::DeclarationRules::declaration_turns))]
 pub fn declarations(
-    source: &Source<'_>,
+    source: &SourceText<'_>,
     cursor: &mut Cursor<'_>,
     levels: u32,
-) -> Result<Vec<Decl>, Fault>
+) -> Result<Vec<Decl>, TreeFault>
     requires { AreNatural cursor.old.rest.now }
     ensures { Parses spec.declarations
         source.now levels cursor.old (λ ds. map view.declaration ds.items) result cursor.new }
@@ -568,26 +604,30 @@ pub fn declarations(
 }
 
 /// Reads the word `main`, and returns its place.
-#[tactic(auto, unfolding(token_grammar::specs::Reader::read))]
-fn main_word(cursor: &mut Cursor<'_>) -> Result<u32, Fault>
+#[tactic(auto, unfolding(rev_expressions::specs::Reader::read))]
+fn main_word(cursor: &mut Cursor<'_>) -> Result<u32, TreeFault>
     ensures { Reads (plain (g.place s.Main) cursor.old.rest.now) same result cursor.new.rest.now }
 {
     let Some(token) = cursor.peek() else {
-        return Err(Fault::Unexpected);
+        return Err(TreeFault::Unexpected);
     };
     match token.kind {
         TokenKind::Fixed(Fixed::Main) => {
             cursor.advance();
             Ok(token.start)
         }
-        _ => Err(Fault::Unexpected),
+        _ => Err(TreeFault::Unexpected),
     }
 }
 
 /// A program, with its tokens left that stand behind the block of `main`. No number of the tokens
 /// is negative.
 #[tactic(auto, using(crate::proofs::DeclarationRules::program_is))]
-pub fn program(source: &Source<'_>, cursor: &mut Cursor<'_>, levels: u32) -> Result<Program, Fault>
+pub fn program(
+    source: &SourceText<'_>,
+    cursor: &mut Cursor<'_>,
+    levels: u32,
+) -> Result<Program, TreeFault>
     requires { AreNatural cursor.old.rest.now }
     ensures { Parses spec.program source.now levels cursor.old view.program result cursor.new }
 {

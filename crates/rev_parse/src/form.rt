@@ -1,4 +1,4 @@
-// Statements put together of their parts.
+//! Statements put together of their parts.
 ghost use Rattle.std.specs.Prelude.{◌≡◌, map, option_map};
 ghost use Rattle.rev_syntax.specs.Trees as t;
 ghost use Rattle.rev_syntax.specs.View as view;

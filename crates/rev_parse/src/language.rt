@@ -2,25 +2,25 @@
 ghost use Rattle.std.specs.Prelude.{◌≡◌};
 ghost use Rattle.rev_parse.specs.Instance.{Choices};
 
-use token_grammar::Grammar;
+use rev_expressions::Grammar;
 
 /// The grammar of the language over a text, of which the names in its trees are slices.
 #[derive(Clone, Copy, Drop)]
-pub struct Language<'a> {
+pub struct LanguageGrammar<'a> {
     pub text: &'a [u8],
     ghost choices: { Choices text.now },
 }
 
-impl<'a> Language<'a> {
+impl<'a> LanguageGrammar<'a> {
     /// The grammar over this text.
-    pub fn new(text: &'a [u8]) -> Language<'a>
+    pub fn new(text: &'a [u8]) -> LanguageGrammar<'a>
         ensures { result.text.now ≡ text.now }
     {
-        Language { text }
+        LanguageGrammar { text }
     }
 }
 
-impl Grammar for Language<'_> {
+impl Grammar for LanguageGrammar<'_> {
     ghost use Rattle.rev_syntax.specs.Trees.{ProgramTree};
     ghost use Rattle.rev_expressions.specs.Classes.{classes};
     ghost use Rattle.rev_expressions.specs.Grammar as grammar;

@@ -2,14 +2,14 @@
 ghost use Rattle.rev_parse.specs.Instance.{IsExactHere};
 ghost use Rattle.rev_parse.specs.Verdicts.{OneVerdict, SomeVerdict};
 
-use crate::language::Language;
-use token_grammar::parser_is_exact;
+use crate::language::LanguageGrammar;
+use rev_expressions::parser_is_exact;
 
 /// The theorem on grammars that the next token decides, at the grammar of the language.
 pub fn language_is_exact()
     ensures { IsExactHere }
 {
-    parser_is_exact::<Language<'_>>();
+    parser_is_exact::<LanguageGrammar<'_>>();
 }
 
 /// The tokens of a text have one verdict at most: they are one program, or have one first fault.

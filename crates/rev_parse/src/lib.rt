@@ -13,6 +13,6 @@ mod laws;
 mod statement;
 mod whole;
 
-pub use language::Language;
+pub use language::LanguageGrammar;
 pub use laws::{language_is_exact, one_verdict, some_verdict};
 pub use whole::{MOST_LEVELS, SyntaxFault, parse};

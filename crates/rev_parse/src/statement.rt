@@ -1,4 +1,4 @@
-// Statements and blocks.
+//! The parser of statements and blocks.
 ghost use Rattle.std.specs.Prelude.{◌≡◌, ◌++◌, [], ◌∷◌, OnOk, map, length, option_map};
 ghost use Rattle.rev_expressions.specs.Grammar as spec;
 ghost use Rattle.rev_expressions.specs.Statements as st;
@@ -12,19 +12,23 @@ ghost use Rattle.rev_syntax.specs.View as view;
 
 use crate::form;
 use rev_expressions::{
-    Cursor, Fault, Source, arguments, begins_expr, bracketed, expr, name, within,
+    Cursor, SourceText, TreeFault, arguments, begins_expr, bracketed, expr, name, within,
 };
 use rev_syntax::{Arm, Block, Expr, Fixed, Form, Item, Name, Rhs, Stmt, Token, TokenKind};
 use std::alloc::AllocError;
 
 /// Arguments in their parentheses.
 #[tactic(auto, using(crate::proofs::StatementRules::actual_cases))]
-fn actual(source: &Source<'_>, cursor: &mut Cursor<'_>, levels: u32) -> Result<Vec<Expr>, Fault>
+fn actual(
+    source: &SourceText<'_>,
+    cursor: &mut Cursor<'_>,
+    levels: u32,
+) -> Result<Vec<Expr>, TreeFault>
     ensures { Parses st.actual
         source.now levels cursor.old (λ es. map view.expression es.items) result cursor.new }
 {
     if !cursor.is_at(Fixed::OpenParen) {
-        return Err(Fault::Unexpected);
+        return Err(TreeFault::Unexpected);
     }
     let inner = within(levels)?;
     cursor.advance();
@@ -34,10 +38,10 @@ fn actual(source: &Source<'_>, cursor: &mut Cursor<'_>, levels: u32) -> Result<V
 /// A name and the arguments behind it.
 #[tactic(auto, using(crate::proofs::StatementRules::application_is))]
 fn application(
-    source: &Source<'_>,
+    source: &SourceText<'_>,
     cursor: &mut Cursor<'_>,
     levels: u32,
-) -> Result<(Name, Vec<Expr>), Fault>
+) -> Result<(Name, Vec<Expr>), TreeFault>
     ensures { Parses st.application
         source.now levels cursor.old
         (λ p. (view.placed_name p.0, map view.expression p.1.items)) result cursor.new }
@@ -48,11 +52,15 @@ fn application(
 }
 
 /// What is assigned.
-fn right_side(source: &Source<'_>, cursor: &mut Cursor<'_>, levels: u32) -> Result<Rhs, Fault>
+fn right_side(
+    source: &SourceText<'_>,
+    cursor: &mut Cursor<'_>,
+    levels: u32,
+) -> Result<Rhs, TreeFault>
     ensures { Parses st.right_side source.now levels cursor.old view.right_side result cursor.new }
 {
     let Some(token) = cursor.peek() else {
-        return Err(Fault::Unexpected);
+        return Err(TreeFault::Unexpected);
     };
     let at = token.start;
     match token.kind {
@@ -77,7 +85,7 @@ fn right_side(source: &Source<'_>, cursor: &mut Cursor<'_>, levels: u32) -> Resu
 
 /// `=`, a right side and `;`.
 #[tactic(auto, using(crate::proofs::StatementRules::assigned_is))]
-fn assigned(source: &Source<'_>, cursor: &mut Cursor<'_>, levels: u32) -> Result<Rhs, Fault>
+fn assigned(source: &SourceText<'_>, cursor: &mut Cursor<'_>, levels: u32) -> Result<Rhs, TreeFault>
     ensures { Parses st.assigned source.now levels cursor.old view.right_side result cursor.new }
 {
     cursor.expect(Fixed::Assign)?;
@@ -88,17 +96,17 @@ fn assigned(source: &Source<'_>, cursor: &mut Cursor<'_>, levels: u32) -> Result
 
 /// What follows a name that begins a statement.
 fn assignment(
-    source: &Source<'_>,
+    source: &SourceText<'_>,
     cursor: &mut Cursor<'_>,
     levels: u32,
     name: Name,
-) -> Result<Form, Fault>
+) -> Result<Form, TreeFault>
     ensures { ParsesBy
         (λ b n ts. statement_form_of_name (view.placed_name name) (parse b n (st.assignment b) ts))
         source.now levels cursor.old view.statement_form result cursor.new }
 {
     let Some(token) = cursor.peek() else {
-        return Err(Fault::Unexpected);
+        return Err(TreeFault::Unexpected);
     };
     match token.kind {
         TokenKind::Fixed(Fixed::Assign) => {
@@ -116,7 +124,11 @@ fn assignment(
 }
 
 #[tactic(auto, using(crate::proofs::StatementRules::let_is))]
-fn let_form(source: &Source<'_>, cursor: &mut Cursor<'_>, levels: u32) -> Result<Form, Fault>
+fn let_form(
+    source: &SourceText<'_>,
+    cursor: &mut Cursor<'_>,
+    levels: u32,
+) -> Result<Form, TreeFault>
     ensures { Parses st.let_form
         source.now levels cursor.old view.statement_form result cursor.new }
 {
@@ -126,7 +138,11 @@ fn let_form(source: &Source<'_>, cursor: &mut Cursor<'_>, levels: u32) -> Result
 }
 
 #[tactic(auto, using(crate::proofs::StatementRules::call_is))]
-fn call_form(source: &Source<'_>, cursor: &mut Cursor<'_>, levels: u32) -> Result<Form, Fault>
+fn call_form(
+    source: &SourceText<'_>,
+    cursor: &mut Cursor<'_>,
+    levels: u32,
+) -> Result<Form, TreeFault>
     ensures { Parses st.call_form
         source.now levels cursor.old view.statement_form result cursor.new }
 {
@@ -136,7 +152,11 @@ fn call_form(source: &Source<'_>, cursor: &mut Cursor<'_>, levels: u32) -> Resul
 }
 
 #[tactic(auto, using(crate::proofs::StatementRules::fork_is))]
-fn fork_form(source: &Source<'_>, cursor: &mut Cursor<'_>, levels: u32) -> Result<Form, Fault>
+fn fork_form(
+    source: &SourceText<'_>,
+    cursor: &mut Cursor<'_>,
+    levels: u32,
+) -> Result<Form, TreeFault>
     ensures { Parses st.fork_form
         source.now levels cursor.old view.statement_form result cursor.new }
 {
@@ -146,7 +166,11 @@ fn fork_form(source: &Source<'_>, cursor: &mut Cursor<'_>, levels: u32) -> Resul
 }
 
 #[tactic(auto, using(crate::proofs::StatementRules::join_is))]
-fn join_form(source: &Source<'_>, cursor: &mut Cursor<'_>, levels: u32) -> Result<Form, Fault>
+fn join_form(
+    source: &SourceText<'_>,
+    cursor: &mut Cursor<'_>,
+    levels: u32,
+) -> Result<Form, TreeFault>
     ensures { Parses st.join_form
         source.now levels cursor.old view.statement_form result cursor.new }
 {
@@ -156,7 +180,11 @@ fn join_form(source: &Source<'_>, cursor: &mut Cursor<'_>, levels: u32) -> Resul
 }
 
 #[tactic(auto, using(crate::proofs::StatementRules::assert_is))]
-fn assert_form(source: &Source<'_>, cursor: &mut Cursor<'_>, levels: u32) -> Result<Form, Fault>
+fn assert_form(
+    source: &SourceText<'_>,
+    cursor: &mut Cursor<'_>,
+    levels: u32,
+) -> Result<Form, TreeFault>
     ensures { Parses st.assert_form
         source.now levels cursor.old view.statement_form result cursor.new }
 {
@@ -165,7 +193,11 @@ fn assert_form(source: &Source<'_>, cursor: &mut Cursor<'_>, levels: u32) -> Res
     Ok(form::assert(test))
 }
 
-fn return_form(source: &Source<'_>, cursor: &mut Cursor<'_>, levels: u32) -> Result<Form, Fault>
+fn return_form(
+    source: &SourceText<'_>,
+    cursor: &mut Cursor<'_>,
+    levels: u32,
+) -> Result<Form, TreeFault>
     ensures { Parses st.return_form
         source.now levels cursor.old view.statement_form result cursor.new }
 {
@@ -179,11 +211,11 @@ fn return_form(source: &Source<'_>, cursor: &mut Cursor<'_>, levels: u32) -> Res
 }
 
 /// An item of a `print`.
-fn item(source: &Source<'_>, cursor: &mut Cursor<'_>, levels: u32) -> Result<Item, Fault>
+fn item(source: &SourceText<'_>, cursor: &mut Cursor<'_>, levels: u32) -> Result<Item, TreeFault>
     ensures { Parses st.item source.now levels cursor.old view.print_item result cursor.new }
 {
     let Some(token) = cursor.peek() else {
-        return Err(Fault::Unexpected);
+        return Err(TreeFault::Unexpected);
     };
     match token.kind {
         TokenKind::Text => {
@@ -229,7 +261,11 @@ fn push_item(items: &mut Vec<Item>, item: Item) -> Result<(), AllocError>
     Ok(())
 }
 
-fn items(source: &Source<'_>, cursor: &mut Cursor<'_>, levels: u32) -> Result<Vec<Item>, Fault>
+fn items(
+    source: &SourceText<'_>,
+    cursor: &mut Cursor<'_>,
+    levels: u32,
+) -> Result<Vec<Item>, TreeFault>
     ensures { Parses (λ b. spec.listing (st.item b))
         source.now levels cursor.old (λ xs. map view.print_item xs.items) result cursor.new }
 {
@@ -245,11 +281,11 @@ fn items(source: &Source<'_>, cursor: &mut Cursor<'_>, levels: u32) -> Result<Ve
 /// The items behind the first, each behind a comma.
 #[tactic(auto, using(rev_expressions::proofs::Lists::comma_turns))]
 fn more_items(
-    source: &Source<'_>,
+    source: &SourceText<'_>,
     cursor: &mut Cursor<'_>,
     levels: u32,
     found: Vec<Item>,
-) -> Result<Vec<Item>, Fault>
+) -> Result<Vec<Item>, TreeFault>
     ensures { ParsesBy
         (λ b n ts. more_listed b n (st.item b) (length ts) (map view.print_item found.items) ts)
         source.now levels cursor.old (λ xs. map view.print_item xs.items) result cursor.new }
@@ -267,7 +303,11 @@ fn more_items(
 }
 
 #[tactic(auto, using(crate::proofs::StatementRules::print_is))]
-fn print_form(source: &Source<'_>, cursor: &mut Cursor<'_>, levels: u32) -> Result<Form, Fault>
+fn print_form(
+    source: &SourceText<'_>,
+    cursor: &mut Cursor<'_>,
+    levels: u32,
+) -> Result<Form, TreeFault>
     ensures { Parses st.print_form
         source.now levels cursor.old view.statement_form result cursor.new }
 {
@@ -318,11 +358,15 @@ fn push_arm(found: &mut Vec<Arm>, arm: Arm) -> Result<(), AllocError>
 /// A block in its braces.
 #[cycle(stmt)]
 #[tactic(auto, using(crate::proofs::StatementRules::block_cases))]
-pub fn block(source: &Source<'_>, cursor: &mut Cursor<'_>, levels: u32) -> Result<Block, Fault>
+pub fn block(
+    source: &SourceText<'_>,
+    cursor: &mut Cursor<'_>,
+    levels: u32,
+) -> Result<Block, TreeFault>
     ensures { Parses (λ _. st.block) source.now levels cursor.old view.block result cursor.new }
 {
     if !cursor.is_at(Fixed::OpenBrace) {
-        return Err(Fault::Unexpected);
+        return Err(TreeFault::Unexpected);
     }
     let inner = within(levels)?;
     cursor.advance();
@@ -332,7 +376,7 @@ pub fn block(source: &Source<'_>, cursor: &mut Cursor<'_>, levels: u32) -> Resul
 /// The statements of a block, up to its closing brace.
 #[cycle(stmt)]
 #[tactic(auto, using(crate::proofs::StatementRules::body_is))]
-fn body(source: &Source<'_>, cursor: &mut Cursor<'_>, levels: u32) -> Result<Block, Fault>
+fn body(source: &SourceText<'_>, cursor: &mut Cursor<'_>, levels: u32) -> Result<Block, TreeFault>
     ensures { Parses st.body source.now levels cursor.old view.block result cursor.new }
 {
     let stmts = statements(source, cursor, levels)?;
@@ -341,7 +385,11 @@ fn body(source: &Source<'_>, cursor: &mut Cursor<'_>, levels: u32) -> Result<Blo
 }
 
 #[cycle(stmt)]
-fn statements(source: &Source<'_>, cursor: &mut Cursor<'_>, levels: u32) -> Result<Vec<Stmt>, Fault>
+fn statements(
+    source: &SourceText<'_>,
+    cursor: &mut Cursor<'_>,
+    levels: u32,
+) -> Result<Vec<Stmt>, TreeFault>
     ensures { ParsesBy (λ b n ts. more_of b n (st.statement b) (length ts) [] ts)
         source.now levels cursor.old (λ xs. map view.stmt xs.items) result cursor.new }
 {
@@ -364,15 +412,15 @@ fn statements(source: &Source<'_>, cursor: &mut Cursor<'_>, levels: u32) -> Resu
 /// A statement. Its line is found soonest where it is `near` or the next one.
 #[cycle(stmt)]
 fn statement(
-    source: &Source<'_>,
+    source: &SourceText<'_>,
     cursor: &mut Cursor<'_>,
     levels: u32,
     near: u32,
-) -> Result<Stmt, Fault>
+) -> Result<Stmt, TreeFault>
     ensures { Parses st.statement source.now levels cursor.old view.stmt result cursor.new }
 {
     let Some(token) = cursor.peek() else {
-        return Err(Fault::Unexpected);
+        return Err(TreeFault::Unexpected);
     };
     let line = source.line_near(near, token.start);
     let form = form_at(source, cursor, levels, token)?;
@@ -382,11 +430,11 @@ fn statement(
 /// A statement's form, of which this is the first token.
 #[cycle(stmt)]
 fn form_at(
-    source: &Source<'_>,
+    source: &SourceText<'_>,
     cursor: &mut Cursor<'_>,
     levels: u32,
     token: Token,
-) -> Result<Form, Fault>
+) -> Result<Form, TreeFault>
     ensures { ParsesBy (λ b n ts. form_behind b n token ts)
         source.now levels cursor.old view.statement_form result cursor.new }
 {
@@ -414,11 +462,11 @@ fn form_at(
 
 /// A form with no block, of which this is the first token.
 fn flat_form_at(
-    source: &Source<'_>,
+    source: &SourceText<'_>,
     cursor: &mut Cursor<'_>,
     levels: u32,
     token: Token,
-) -> Result<Form, Fault>
+) -> Result<Form, TreeFault>
     ensures { ParsesBy (λ b n ts. flat_form_behind b n token ts)
         source.now levels cursor.old view.statement_form result cursor.new }
 {
@@ -447,13 +495,17 @@ fn flat_form_at(
             cursor.advance();
             assert_form(source, cursor, levels)
         }
-        _ => Err(Fault::Unexpected),
+        _ => Err(TreeFault::Unexpected),
     }
 }
 
 #[cycle(stmt)]
 #[tactic(auto, using(crate::proofs::StatementRules::while_is))]
-fn while_form(source: &Source<'_>, cursor: &mut Cursor<'_>, levels: u32) -> Result<Form, Fault>
+fn while_form(
+    source: &SourceText<'_>,
+    cursor: &mut Cursor<'_>,
+    levels: u32,
+) -> Result<Form, TreeFault>
     ensures { Parses st.while_form
         source.now levels cursor.old view.statement_form result cursor.new }
 {
@@ -465,7 +517,7 @@ fn while_form(source: &Source<'_>, cursor: &mut Cursor<'_>, levels: u32) -> Resu
 /// A test and its block.
 #[cycle(stmt)]
 #[tactic(auto, using(crate::proofs::StatementRules::arm_is))]
-fn arm(source: &Source<'_>, cursor: &mut Cursor<'_>, levels: u32) -> Result<Arm, Fault>
+fn arm(source: &SourceText<'_>, cursor: &mut Cursor<'_>, levels: u32) -> Result<Arm, TreeFault>
     ensures { Parses st.arm source.now levels cursor.old view.arm result cursor.new }
 {
     let test = expr(source, cursor, levels)?;
@@ -474,7 +526,7 @@ fn arm(source: &Source<'_>, cursor: &mut Cursor<'_>, levels: u32) -> Result<Arm,
 }
 
 #[cycle(stmt)]
-fn if_form(source: &Source<'_>, cursor: &mut Cursor<'_>, levels: u32) -> Result<Form, Fault>
+fn if_form(source: &SourceText<'_>, cursor: &mut Cursor<'_>, levels: u32) -> Result<Form, TreeFault>
     ensures { Parses st.if_form source.now levels cursor.old view.statement_form result cursor.new }
 {
     let first = arm(source, cursor, levels)?;
@@ -487,11 +539,11 @@ fn if_form(source: &Source<'_>, cursor: &mut Cursor<'_>, levels: u32) -> Result<
 /// The tests behind these, and the last block if there is one.
 #[cycle(stmt)]
 fn else_parts(
-    source: &Source<'_>,
+    source: &SourceText<'_>,
     cursor: &mut Cursor<'_>,
     levels: u32,
     arms: Vec<Arm>,
-) -> Result<(Vec<Arm>, Option<Block>), Fault>
+) -> Result<(Vec<Arm>, Option<Block>), TreeFault>
     ensures { ParsesBy
         (λ b n ts. more_parts b n (length ts) (map st.Test (map view.arm arms.items)) ts)
         source.now levels cursor.old

@@ -1,11 +1,11 @@
-// Whole programs.
+//! The parser of whole programs, with their faults.
 ghost use Rattle.std.specs.Prelude.{◌≡◌, ◌<◌, ◌^◌, ◌-◌, All, length};
 ghost use Rattle.rev_parse.specs.Verdicts.{place_of};
 ghost use Rattle.rev_parse.specs.Parsing.{Parses};
 ghost use Rattle.rev_syntax.specs.Tokens.{IsToken};
 
 use crate::declaration::program;
-use rev_expressions::{Cursor, Fault, Source};
+use rev_expressions::{Cursor, SourceText, TreeFault};
 use rev_syntax::{Program, Token};
 use std::alloc::{AllocError, Global};
 
@@ -15,7 +15,7 @@ pub const MOST_LEVELS: u32 = 200;
 
 /// Why tokens are no program, with the offset of the first token that is at fault, or of the end of
 /// the text; or want of memory, which says nothing of them.
-#[derive(Clone, Copy, PartialEq, Eq, Debug, Drop)]
+#[derive(Clone, Copy, Drop)]
 pub enum SyntaxFault {
     /// No program goes on like this.
     Unexpected { at: u32 },
@@ -53,7 +53,7 @@ pub fn parse(alloc: Global, bytes: &[u8], tokens: &[Token]) -> Result<Program, S
     requires tokens { All (IsToken bytes.now) tokens.now }
     ensures { Parses bytes.now tokens.now result }
 {
-    let source = Source::new(alloc, bytes)?;
+    let source = SourceText::new(alloc, bytes)?;
     let mut cursor = Cursor { rest: tokens };
     let found = program(&source, &mut cursor, MOST_LEVELS);
     let at = place(bytes, &cursor);
@@ -66,8 +66,8 @@ pub fn parse(alloc: Global, bytes: &[u8], tokens: &[Token]) -> Result<Program, S
                 Err(SyntaxFault::Unexpected { at })
             }
         }
-        Err(Fault::Unexpected) => Err(SyntaxFault::Unexpected { at }),
-        Err(Fault::TooDeep) => Err(SyntaxFault::TooDeep { at }),
-        Err(Fault::OutOfMemory) => Err(SyntaxFault::OutOfMemory),
+        Err(TreeFault::Unexpected) => Err(SyntaxFault::Unexpected { at }),
+        Err(TreeFault::TooDeep) => Err(SyntaxFault::TooDeep { at }),
+        Err(TreeFault::OutOfMemory) => Err(SyntaxFault::OutOfMemory),
     }
 }

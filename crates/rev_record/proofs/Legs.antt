@@ -24,7 +24,7 @@ use Rattle.code_memos.proofs.Numbers.{unlisted_by_number}
 use Rattle.code_world.specs.declared.answer.LegAnswer.{LegAnswer}
 use Rattle.code_world.specs.declared.answer.LegAnswer.TheVariants as answer
 use Rattle.code_world.specs.declared.freshness.FreshStart.{FreshStart}
-use Rattle.code_world.specs.declared.slot.Slot.TheVariants as slot
+use Rattle.code_world.specs.declared.slot.WorldSlot.TheVariants as slot
 use Rattle.code_world.specs.declared.world.World as rust_world
 use Rattle.code_world.specs.declared.world.World.TheVariants as world
 use Rattle.code_world.specs.Beginnings.{FreshAt}
@@ -32,7 +32,7 @@ use Rattle.code_world.specs.Slots.{WholeJoin, IsSlot, IsEntry}
 use Rattle.code_world.specs.Tables.{IsWorld}
 use Rattle.code_world.proofs.Rows.{slot_at}
 use Rattle.code_machine_laws.specs.Reached.{IsReached}
-use Rattle.world_runs.specs.Kept.{KeepsOn}
+use Rattle.world_runs.specs.KeptByLegs.{KeepsOn}
 use Rattle.memo_runs.specs.SoFar.{LeafLeg}
 use Rattle.rev_record.specs.Legs.{IsFrom, StandsFresh}
 

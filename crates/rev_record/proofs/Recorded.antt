@@ -27,13 +27,13 @@ use Rattle.code_world.specs.Beginnings.{FreshAt}
 use Rattle.code_world.specs.Endings.{Names, IsEndAt}
 use Rattle.code_world.specs.Meetings.{HasMeeting, MeetingOf, HasNoted}
 use Rattle.code_world.specs.Tables.{IsWorld}
-use Rattle.noting_run.specs.declared.notes.Noted.{Noted}
+use Rattle.noting_run.specs.declared.notes.ReadMarks.{ReadMarks}
 use Rattle.noting_run.specs.Marks.{marks_of, HasMarked}
 use Rattle.code_reads.specs.Legs.{leg_reads}
 use Rattle.version_map.specs.Deltas.{locations}
 use Rattle.code_world.specs.Between.{HasReadOf, HasReadIn}
 use Rattle.leaf_entries.specs.Told.{IsBlank}
-use Rattle.world_runs.specs.Kept.{KeepsOn}
+use Rattle.world_runs.specs.KeptByLegs.{KeepsOn}
 use Rattle.memo_runs.proofs.Keeping.{not_over}
 use Rattle.memo_runs.specs.SoFar.{LeafLeg}
 use Rattle.memo_runs.proofs.Leaves.{one_row, leaf_there, ended_over, ended_goes, leaf_leg}
@@ -210,7 +210,7 @@ leaf_world g w n answer.NoSuch m v e h = absurd (let z : false ≡ true = e in c
 leaf_world g w n answer.Over m v e h = absurd (let z : false ≡ true = e in cc)
 
 module _ (g : CodeRun) (ok : IsVerified g) (fuel : ℕ) (w : Entries (Local ℕ)) (from : IsFrom g fuel (Listing w)) (n : ℕ)
-    (x : FreshStart) (made : NotedLeg) (noted : Noted) (v : rust_world.World)
+    (x : FreshStart) (made : NotedLeg) (noted : ReadMarks) (v : rust_world.World)
     (h : WasNoted g w n x made noted v) (is : is_leaf made.answer made.meeting ≡ true) where
   abbrev pub path : Path
   path = h.start.path
@@ -281,14 +281,14 @@ module _ (g : CodeRun) (ok : IsVerified g) (fuel : ℕ) (w : Entries (Local ℕ)
 
 -- ---- what is known behind the leg
 
-pub record KnownLeg (g : CodeRun) (w : World (Local ℕ)) (n : ℕ) (x : FreshStart) (made : NotedLeg) (noted : Noted)
+pub record KnownLeg (g : CodeRun) (w : World (Local ℕ)) (n : ℕ) (x : FreshStart) (made : NotedLeg) (noted : ReadMarks)
     (v : rust_world.World) : Type 0 where
   pub entries : Entries (Local ℕ)
   pub is : w ≡ Listing entries
   pub was : WasNoted g entries n x made noted v
 
 pub known_leg : (g : CodeRun) (v : rust_world.World) (w : World (Local ℕ)) (n : ℕ) (x : FreshStart) (made : NotedLeg)
-    (blank noted : Noted) (v' : rust_world.World)
+    (blank noted : ReadMarks) (v' : rust_world.World)
     → FreshAt g v w n (Some x) → IsBlank blank
     → HasReadIn g v w n blank noted → LegAnswers g w n made.answer v'
     → ((u : Entries (Local ℕ)) → w ≡ Listing u → HasNoted g u n made.answer made.meeting)

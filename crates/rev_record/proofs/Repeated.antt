@@ -29,7 +29,7 @@ use Rattle.code_world.specs.Endings.{Names}
 use Rattle.code_world.specs.declared.table.Birth.{Birth}
 use Rattle.code_machine_laws.proofs.Reaching.{small}
 use Rattle.code_world.specs.Tables.{IsWorld}
-use Rattle.world_runs.specs.Kept.{KeepsOn}
+use Rattle.world_runs.specs.KeptByLegs.{KeepsOn}
 use Rattle.memo_runs.specs.SoFar.{LeafLeg}
 use Rattle.memo_runs.proofs.Leaves.{one_row, adopted_is_leaf}
 use Rattle.memo_runs.proofs.Keeping.{counted_without, counted_with}

@@ -17,7 +17,7 @@ use Rattle.leg_run.specs.declared.revision.Meeting.{Meeting}
 use Rattle.revision_machine.specs.Machine.{Plain}
 use Rattle.revision_machine.specs.Numbered.{Entries, World, Listing, at_number, begin, Replays}
 use Rattle.code_reads.specs.Legs.{leg_reads}
-use Rattle.noting_run.specs.declared.notes.Noted.{Noted}
+use Rattle.noting_run.specs.declared.notes.ReadMarks.{ReadMarks}
 use Rattle.noting_run.specs.Marks.{marks_of, HasMarked}
 use Rattle.code_machine.specs.Local.{CodeRun, Local, at_work}
 use Rattle.code_machine.specs.Machines.{numbered, IsMain, start_in}
@@ -74,12 +74,12 @@ pub record StandsFresh (g : CodeRun) (w : Entries (Local ℕ)) (n : ℕ) (x : Fr
 
 -- ---- recording
 
-pub record WasNoted (g : CodeRun) (w : Entries (Local ℕ)) (n : ℕ) (x : FreshStart) (made : NotedLeg) (noted : Noted) (v : rust_world.World)
+pub record WasNoted (g : CodeRun) (w : Entries (Local ℕ)) (n : ℕ) (x : FreshStart) (made : NotedLeg) (noted : ReadMarks) (v : rust_world.World)
     : Type 0 where
   pub start : StandsFresh g w n x
   pub rooms : locations noted.locations ≡ length x.base.items
   pub positions : locations noted.inputs ≡ length g.inputs
-  pub blank : Noted
+  pub blank : ReadMarks
   pub is_blank : IsBlank blank
   pub read : HasMarked blank noted (marks_of (leg_reads g start.state))
   pub answers : LegAnswers g (Listing w) n made.answer v

@@ -13,14 +13,14 @@ ghost use Rattle.revision_machine.specs.Numbered.{Entries, Listing, World as Def
 ghost use Rattle.rev_vm.specs.Starts.{run_under};
 ghost use Rattle.version_map.specs.Deltas.{locations};
 ghost use Rattle.leaf_entries.specs.Told.{IsBlank};
-ghost use Rattle.world_runs.specs.Kept.{KeepsOn};
+ghost use Rattle.world_runs.specs.KeptByLegs.{KeepsOn};
 ghost use Rattle.rev_record.specs.Legs.{HasKept, IsFrom, IsRecorded, WasNoted};
 ghost use Rattle.rev_record.specs.Legs.{is_leaf as defined_leaf};
 
 use code_world::{FreshStart, LegAnswer, NotedLeg, World, fresh, leg, leg_noting};
 use leaf_entries::{LeafEntry, blank, make_entry};
 use leg_run::CodeSetting;
-use noting_run::Noted;
+use noting_run::ReadMarks;
 use std::alloc::{AllocError, Global};
 use version_map::MergeBy;
 use world_runs::Legs;
@@ -50,7 +50,11 @@ fn is_leaf(made: NotedLeg) -> bool
 }
 
 /// Notes of nothing, before the leg of a revision that begins so.
-fn blank_for(alloc: Global, setting: &CodeSetting, start: &FreshStart) -> Result<Noted, AllocError>
+fn blank_for(
+    alloc: Global,
+    setting: &CodeSetting,
+    start: &FreshStart,
+) -> Result<ReadMarks, AllocError>
     requires inputs { length setting.now.inputs.items < 2 ^ 32 }
     requires locations { length start.now.base.items < 2 ^ 32 }
     ensures blank { IfOk result (λ n. IsBlank n) }
@@ -69,7 +73,7 @@ fn keep_entry(
     world: &World,
     revision: u32,
     start: &FreshStart,
-    noted: &Noted,
+    noted: &ReadMarks,
     entries: &mut Vec<LeafEntry>,
 ) -> Result<(), AllocError>
     requires { (w : Entries (Local ℕ)) × (made : DefinedLeg) × (fuel : ℕ)
@@ -101,7 +105,7 @@ fn keep_leaf(
     revision: u32,
     made: NotedLeg,
     start: &FreshStart,
-    noted: &Noted,
+    noted: &ReadMarks,
     entries: &mut Vec<LeafEntry>,
 ) -> Result<(), AllocError>
     requires { (w : Entries (Local ℕ)) × (fuel : ℕ)

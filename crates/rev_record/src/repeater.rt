@@ -11,7 +11,7 @@ ghost use Rattle.code_world.specs.Tables.{IsWorld};
 ghost use Rattle.code_machine_laws.specs.Reached.{IsReached};
 ghost use Rattle.revision_machine.specs.Numbered.{Entries, Listing, World as DefinedWorld};
 ghost use Rattle.rev_vm.specs.Starts.{run_under};
-ghost use Rattle.world_runs.specs.Kept.{KeepsOn};
+ghost use Rattle.world_runs.specs.KeptByLegs.{KeepsOn};
 ghost use Rattle.rev_record.specs.Legs.{IsFrom, IsRepeated, IsTaken, StandsFresh};
 ghost use Rattle.rev_record.specs.Memos.{HasEntries};
 

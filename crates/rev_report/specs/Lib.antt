@@ -1,3 +1,4 @@
+-- Definitions of rev_report: what is written of an outcome, statuses, and the limits of the language.
 pub mod Status
 pub mod Lines
 pub mod Report

@@ -3,7 +3,7 @@ ghost use Rattle.std.specs.Prelude.{◌≡◌};
 ghost use Rattle.rev_report.specs.Limits.{first_past, most, name_of_limit};
 
 /// What a text may have only so many of.
-#[derive(Clone, Copy, PartialEq, Eq, Debug, Drop)]
+#[derive(Clone, Copy, Drop)]
 pub enum Limit {
     /// Cells and plain variables of a program together.
     Locations,

@@ -1,7 +1,7 @@
 //! Reports.
 
 /// What a call writes on standard output and on standard error, and its status.
-#[derive(PartialEq, Eq, Debug, Drop)]
+#[derive(Drop)]
 pub struct Report {
     pub out: Vec<u8>,
     pub err: Vec<u8>,

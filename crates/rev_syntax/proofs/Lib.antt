@@ -1,3 +1,4 @@
+-- Proofs of rev_syntax: tokens, places and trees of the whole language.
 pub mod Lists
 pub mod PieceKinds
 pub mod FixedWords

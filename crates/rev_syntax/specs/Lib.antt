@@ -1,3 +1,4 @@
+-- Definitions of rev_syntax: tokens, places and trees of the whole language.
 pub mod Trees
 pub mod View
 pub mod Bytes

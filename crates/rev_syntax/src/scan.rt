@@ -12,7 +12,7 @@ use std::alloc::AllocFailed;
 
 /// The first place of a text that cannot be cut into tokens, or want of memory, which says nothing
 /// of the text.
-#[derive(Clone, Copy, PartialEq, Eq, Debug)]
+#[derive(Clone, Copy)]
 pub enum LexFault {
     /// A byte that begins no token.
     BadByte { at: u32 },

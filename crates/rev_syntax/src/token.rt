@@ -3,7 +3,7 @@ ghost use Rattle.std.specs.Prelude.{◌≡◌};
 ghost use Rattle.rev_syntax.specs.Words as spec;
 
 /// A token that is always spelled alike: a reserved word, or a sign.
-#[derive(Clone, Copy, PartialEq, Eq, Debug, Drop)]
+#[derive(Clone, Copy, Debug, Drop)]
 pub enum Fixed {
     // The reserved words.
     Fun,
@@ -62,7 +62,7 @@ pub enum Fixed {
 }
 
 /// What a token is: a name, a number with its value, a text in quotes, or a reserved word or sign.
-#[derive(Clone, Copy, PartialEq, Eq, Debug)]
+#[derive(Clone, Copy, Debug)]
 pub enum TokenKind {
     Name,
     Int(i64),
@@ -71,7 +71,7 @@ pub enum TokenKind {
 }
 
 /// A token, with the offset of its first byte and the offset after its last one.
-#[derive(Clone, Copy, PartialEq, Eq, Debug)]
+#[derive(Clone, Copy)]
 pub struct Token {
     pub kind: TokenKind,
     pub start: u32,

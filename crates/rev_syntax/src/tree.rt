@@ -6,14 +6,14 @@
 use rev_num::{Value, ValueKind};
 
 /// The operators with one operand: `-` and `!`.
-#[derive(Drop, Clone, Copy, PartialEq, Eq, Debug)]
+#[derive(Drop, Clone, Copy)]
 pub enum UnaryOp {
     Neg,
     Not,
 }
 
 /// The operators with two operands: `+ - * / % == != < <= > >= &&` and two vertical bars.
-#[derive(Drop, Clone, Copy, PartialEq, Eq, Debug)]
+#[derive(Drop, Clone, Copy)]
 pub enum BinaryOp {
     Add,
     Sub,

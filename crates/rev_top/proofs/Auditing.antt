@@ -11,14 +11,14 @@ use Rattle.revision_calculus.specs.Kinded.{IsAccepted}
 use Rattle.trace_diagram.specs.Traces.{IsFirstFault, IsTextOf, IsTraceText}
 use Rattle.trace_diagram.specs.declared.diagram.Trace.{Trace}
 use Rattle.trace_diagram.proofs.Faults.{fault_is_no_text, one_fault}
-use Rattle.trace_laws.proofs.Texts.{each_is_read_or_fails}
+use Rattle.program_texts.proofs.Texts.{each_is_read_or_fails}
 use Rattle.trace_diagram.specs.Dividing.{Divides, DividesOnce}
 use Rattle.trace_diagram.proofs.Dividing.{sources_divide_once}
 use Rattle.audit_rules.specs.declared.verdict.Verdict.{Verdict}
 use Rattle.audit_rules.specs.declared.verdict.Verdict.TheVariants as verdict
 use Rattle.audit_rules.proofs.Verdicts.{each_has_one}
-use Rattle.trace_laws.specs.Verdicts.{SameVerdict}
-use Rattle.trace_laws.proofs.OneVerdict.{text_has_one}
+use Rattle.program_texts.specs.Verdicts.{SameVerdict}
+use Rattle.program_texts.proofs.OneVerdict.{text_has_one}
 use Rattle.rev_top.specs.Answer.{Answer, AuditsTrace, setting}
 use Rattle.rev_top.specs.Stages.{Onward}
 use Rattle.rev_top.specs.Traces.{Judges, Parts, ReadsTrace, Splits, answer_of}

@@ -6,10 +6,10 @@ use Rattle.rev_messages.specs.Refusals.{status_of}
 use Rattle.rev_messages.specs.declared.refusal.Refusal.{Refusal}
 use Rattle.revision_calculus.specs.Kinded.{IsAccepted}
 use Rattle.revision_calculus.proofs.FunKinds.{rules_kept}
-use Rattle.rev_affine.specs.Affine.{Breach, copied, stored, used_twice, in_loop, Breakage, IsFirstBroken, number}
-use Rattle.rev_affine.specs.Laws.{Decides}
-use Rattle.rev_affine.specs.Places.{first_breakage}
-use Rattle.rev_affine.proofs.Places.{decided}
+use Rattle.affine_check.specs.Affine.{Breach, copied, stored, used_twice, in_loop, Breakage, IsFirstBroken, number}
+use Rattle.affine_check.specs.Laws.{Decides}
+use Rattle.affine_check.specs.Places.{first_breakage}
+use Rattle.affine_check.proofs.Places.{decided}
 use Rattle.affine_check.specs.Faults.{Refuses}
 use Rattle.affine_check.specs.declared.fault.AffineFault.{AffineFault}
 use Rattle.affine_check.specs.declared.fault.AffineFault.TheVariants as affine

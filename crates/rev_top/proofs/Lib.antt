@@ -6,7 +6,7 @@ pub mod Codes
 pub mod Ending
 pub mod Faults
 pub mod Findings
-pub mod Kept
+pub mod PromisesKept
 pub mod Kernels
 pub mod Printing
 pub mod Handles

@@ -13,7 +13,7 @@ use Rattle.rev_report.specs.Outcome.{report}
 use Rattle.rev_messages.specs.declared.refusal.Refusal.{Refusal}
 use Rattle.rev_messages.specs.declared.refusal.Refusal.TheVariants as refusals
 use Rattle.rev_syntax.specs.Trees.{ProgramTree}
-use Rattle.rev_affine.specs.Affine.{IsAffine}
+use Rattle.affine_check.specs.Affine.{IsAffine}
 use Rattle.revision_calculus.specs.Complete.{HasOutcome}
 use Rattle.rev_top.specs.Affine.{KeepsAffine, ReadsAffine}
 use Rattle.rev_top.specs.Answer.{Answer, Answers, Given, SaysAs, Streams, reads_of, setting, source_limit}

@@ -12,7 +12,7 @@ use Rattle.rev_report.specs.Report.{Output}
 use Rattle.rev_messages.specs.Refusals.{shown}
 use Rattle.rev_messages.specs.declared.refusal.Refusal.{Refusal}
 use Rattle.rev_syntax.specs.Trees.{ProgramTree}
-use Rattle.rev_affine.specs.Affine.{IsAffine}
+use Rattle.affine_check.specs.Affine.{IsAffine}
 use Rattle.revision_calculus.specs.Complete.{HasOutcome}
 use Rattle.revision_calculus.proofs.Outcomes.{one_outcome}
 use Rattle.code_machine_laws.specs.Texts.{said}

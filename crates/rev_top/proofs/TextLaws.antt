@@ -6,7 +6,7 @@ use Rattle.std.proofs.lemmas.Bool.{and_parts}
 use Rattle.std.proofs.lemmas.List.{append_assoc, append-nil}
 use Rattle.rev_words.specs.Load.{load_text}
 use Rattle.clap.specs.Words.{Row, all_of, first_of, matches_of}
-use Rattle.plain_words.specs.Agreement.{AreInputs}
+use Rattle.block_run.specs.Agreement.{AreInputs}
 use Rattle.rev_num.specs.Arith.{fits_i64}
 use Rattle.rev_num.specs.Decimal.{decimal_in}
 use Rattle.rev_num.specs.Limits.{most_fuel}
@@ -31,12 +31,12 @@ use Rattle.rev_parse.specs.Verdicts.{Verdict, tree, unexpected, too_deep, IsProg
 use Rattle.static_rules.proofs.Fronts.{none_broken}
 use Rattle.trace_diagram.specs.Traces.{IsWholeLines, ended, first_line, trace_text}
 use Rattle.trace_diagram.specs.Dividing.{BeginsTrace, Divides, IsCutAt, with_trace}
-use Rattle.audit_rules.proofs.Traced.{trace_has_yes}
+use Rattle.audit_rules.proofs.TracesAsParts.{trace_has_yes}
 use Rattle.audit_rules.specs.declared.verdict.Verdict.TheVariants as verdict
 use Rattle.program_texts.proofs.Lines.{no_trace_line}
 use Rattle.program_texts.proofs.LoadPrograms.{load_programs}
-use Rattle.trace_laws.proofs.Programs.{texts_written}
-use Rattle.trace_laws.proofs.Traces.{traces_have_form}
+use Rattle.program_texts.proofs.Programs.{texts_written}
+use Rattle.program_texts.proofs.Traces.{traces_have_form}
 use Rattle.rev_top.specs.Accepted.{IsSound}
 use Rattle.rev_top.specs.Answer.{Answer, AuditsTrace, Fits, RunsTo, SaysAs, reads_of, setting}
 use Rattle.rev_top.specs.RanLaws.{IsRunStatus}

@@ -19,8 +19,8 @@ use Rattle.trace_diagram.specs.declared.diagram.Part.{Part}
 use Rattle.trace_diagram.specs.declared.diagram.Trace.{Trace}
 use Rattle.audit_rules.specs.Traces.{InPostOrder, IsTrace, SameTrace}
 use Rattle.audit_rules.specs.Traced.{HasTrace, IsTraceAt}
-use Rattle.audit_rules.proofs.Listed.{end_has_trace}
-use Rattle.audit_rules.proofs.Traced.{trace_has_yes, yes_tells}
+use Rattle.audit_rules.proofs.FinalTraces.{end_has_trace}
+use Rattle.audit_rules.proofs.TracesAsParts.{trace_has_yes, yes_tells}
 use Rattle.rev_top.specs.Traces.{text_of}
 
 -- ---- there is one

@@ -4,7 +4,7 @@
 -- there the one of the least number, is reported.
 use Rattle.std.specs.Prelude.{ℕ, ◌≡◌, List, Option, Some, None, Result, Ok, Err}
 use Rattle.rev_syntax.specs.Trees.{ProgramTree}
-use Rattle.rev_affine.specs.Affine.{Breach, copied, stored, used_twice, in_loop, Breakage, IsAffine, IsFirstBroken}
+use Rattle.affine_check.specs.Affine.{Breach, copied, stored, used_twice, in_loop, Breakage, IsAffine, IsFirstBroken}
 use Rattle.rev_messages.specs.declared.fault.TextFault.{TextFault}
 use Rattle.rev_messages.specs.declared.fault.TextFault.TheVariants as fault
 use Rattle.rev_messages.specs.declared.refusal.Refusal.{Refusal}

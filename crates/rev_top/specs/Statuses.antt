@@ -29,7 +29,7 @@ use Rattle.rev_top.specs.Codes.{ChecksCode}
 use Rattle.rev_top.specs.Schedules.{ReplaysCode}
 use Rattle.rev_top.specs.Texts.{Checks}
 use Rattle.rev_top.specs.Traces.{Judges, Parts, ReadsTrace, Splits}
-use Rattle.rev_affine.specs.Affine.{IsAffine}
+use Rattle.affine_check.specs.Affine.{IsAffine}
 use Rattle.rev_top.specs.Affine.{KeepsAffine}
 use Rattle.rev_top.specs.Answer.{Answer, Fits, Says, code_run, file_limit, reads_of, setting}
 

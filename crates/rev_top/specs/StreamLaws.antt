@@ -5,7 +5,7 @@ use Rattle.rev_num.specs.declared.outcome.Outcome.{Outcome}
 use Rattle.rev_words.specs.declared.Mode.TheVariants as modes
 use Rattle.rev_words.specs.declared.Words.{Words}
 use Rattle.rev_syntax.specs.Trees.{ProgramTree}
-use Rattle.rev_affine.specs.Affine.{IsAffine}
+use Rattle.affine_check.specs.Affine.{IsAffine}
 use Rattle.revision_calculus.specs.Complete.{HasOutcome}
 use Rattle.code_machine_laws.specs.Texts.{said}
 use Rattle.thread_runs.specs.declared.ran.Ran.{Ran}

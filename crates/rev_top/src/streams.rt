@@ -3,7 +3,7 @@
 ghost use Rattle.std.specs.Prelude.{◌≡◌, ◌≤◌, length, None, Some};
 ghost use Rattle.rev_num.specs.Limits.{most_fuel};
 ghost use Rattle.rev_syntax.specs.View.{program as whole};
-ghost use Rattle.rev_affine.specs.Affine.{IsAffine};
+ghost use Rattle.affine_check.specs.Affine.{IsAffine};
 ghost use Rattle.rev_words.specs.declared.Mode.TheVariants as modes;
 ghost use Rattle.rev_top.specs.Affine.{KeepsAffine, ReadsAffine, report_of_affine};
 ghost use Rattle.rev_top.specs.Answer.{Given, Takes, source_limit};

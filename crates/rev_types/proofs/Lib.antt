@@ -1,9 +1,10 @@
+-- Proofs of rev_types: the checker of the static rules, and the typing rules.
 pub mod Accepting
 pub mod Applying
 pub mod DeclsFaults
 pub mod DeclsSound
 pub mod DeclsWithin
-pub mod Gather
+pub mod FirstOfFaults
 pub mod Layouts
 pub mod Named
 pub mod Namings

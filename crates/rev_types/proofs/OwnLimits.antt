@@ -7,7 +7,7 @@ use Rattle.rev_kinds.specs.declared.fault.TypeFault.TheVariants.{UnknownName, Re
 use Rattle.rev_kinds.specs.Faults.{HasLimit, exceeded}
 use Rattle.rev_types.specs.Laws.{OwnLimits}
 use Rattle.rev_types.specs.Program.{faults}
-use Rattle.rev_types.proofs.Gather.{program_first}
+use Rattle.rev_types.proofs.FirstOfFaults.{program_first}
 
 -- the fault with the number of its limit
 own : TypeFault → TypeFault

@@ -1,3 +1,4 @@
+-- Definitions of rev_types: the checker of the static rules, and the typing rules.
 pub mod Accepted
 pub mod Judgement
 pub mod Layout

@@ -7,7 +7,7 @@ use Rattle.rev_num.proofs.Options.{some_eq}
 use Rattle.rev_code.specs.declared.code.CodeBlock.{CodeBlock}
 use Rattle.rev_code.specs.State.{Listed, State}
 use Rattle.rev_code.specs.Step.{params}
-use Rattle.plain_words.specs.Agreement.{AreWords}
+use Rattle.block_run.specs.Agreement.{AreWords}
 use Rattle.version_map.specs.declared.delta.Delta.{Delta}
 use Rattle.version_map.specs.Deltas.{at}
 use Rattle.version_map.specs.Overlay as overlay

@@ -15,7 +15,7 @@ use Rattle.rev_code.specs.State.{State}
 use Rattle.rev_code.specs.Step.{first_locals, params}
 use Rattle.code_soundness.specs.Typed.{location_kinds}
 use Rattle.code_soundness.proofs.Lists.{kinds_length}
-use Rattle.plain_words.specs.Agreement.{AreWords}
+use Rattle.block_run.specs.Agreement.{AreWords}
 use Rattle.version_map.specs.declared.delta.Delta.{Delta}
 use Rattle.version_map.specs.declared.snapshot.Snapshot.{Ghosts}
 use Rattle.version_map.specs.Deltas.{at, locations, IsEmpty}
@@ -25,7 +25,7 @@ use Rattle.block_run.specs.Standing.{AreSeen}
 use Rattle.code_machine.specs.Local.{CodeRun}
 use Rattle.code_memos.specs.Leaf.{Fresh, IsFresh}
 use Rattle.code_memos.proofs.Entries.{args_are}
-use Rattle.leg_run.specs.declared.revision.Revision.{Revision}
+use Rattle.leg_run.specs.declared.revision.RunningRevision.{RunningRevision}
 use Rattle.leg_run.specs.declared.revision.Run.{Run}
 use Rattle.leg_run.specs.declared.setting.CodeSetting.{CodeSetting}
 use Rattle.leg_run.proofs.Decoding.{seen_locations, words_of_kinds}
@@ -97,7 +97,7 @@ same_born base size v w e g c h = subst (λ z. BornAs g base size z c) e h
 
 module _ {P S : Type 0} {m : Ghosts P S} where
   -- by the stage in which it is found
-  pub begun_as : (g : CodeRun) (s : Stage P S m) (b : Box (Revision P S m)) (c : State ℕ) → s ≡ stage.Begun b
+  pub begun_as : (g : CodeRun) (s : Stage P S m) (b : Box (RunningRevision P S m)) (c : State ℕ) → s ≡ stage.Begun b
       → StandsIn g s c → StandsAs g b.value c
   begun_as g s b c e h = subst (λ z. StandsIn g z c) e h
 

@@ -20,19 +20,19 @@ use Rattle.version_map.specs.Overlay.{under}
 use Rattle.block_run.specs.declared.memory.Memory.{Memory}
 use Rattle.block_run.specs.Remembering.{HasRoom}
 use Rattle.code_machine.specs.Local.{CodeRun, End}
-use Rattle.leg_run.specs.declared.revision.Revision.{Revision}
+use Rattle.leg_run.specs.declared.revision.RunningRevision.{RunningRevision}
 use Rattle.leg_run.specs.declared.revision.Run.{Run}
 use Rattle.rev_vm.specs.Legs.{IsNoted}
 use Rattle.rev_vm.specs.Meaning.{IsAt, IsAtFork, IsAtJoin, IsClaimed, IsPast, IsReady}
 use Rattle.rev_vm.specs.Starts.{IsWaiting}
 use Rattle.rev_vm.specs.Writes.{HasWritten}
 
-module _ {P S : Type 0} {m : Ghosts P S} {v w : Revision P S m} (same : v ≡ w) where
+module _ {P S : Type 0} {m : Ghosts P S} {v w : RunningRevision P S m} (same : v ≡ w) where
   pub same_at : (g : CodeRun) (c : State ℕ)
       → IsAt g v.run v.memory.delta (m.base v.memory.snapshot) v.memory.first.roots c
       → IsAt g w.run w.memory.delta (m.base w.memory.snapshot) w.memory.first.roots c
   same_at g c =
-      subst (λ (r : Revision P S m). IsAt g r.run r.memory.delta (m.base r.memory.snapshot) r.memory.first.roots c) same
+      subst (λ (r : RunningRevision P S m). IsAt g r.run r.memory.delta (m.base r.memory.snapshot) r.memory.first.roots c) same
 
   pub same_some : (g : CodeRun)
       → (c : State ℕ) × IsAt g v.run v.memory.delta (m.base v.memory.snapshot) v.memory.first.roots c
@@ -43,7 +43,7 @@ module _ {P S : Type 0} {m : Ghosts P S} {v w : Revision P S m} (same : v ≡ w)
       → IsAtFork g v.run v.memory.delta (m.base v.memory.snapshot) v.memory.first.roots block c args
       → IsAtFork g w.run w.memory.delta (m.base w.memory.snapshot) w.memory.first.roots block c args
   same_fork g block c args =
-      subst (λ (r : Revision P S m).
+      subst (λ (r : RunningRevision P S m).
       IsAtFork g r.run r.memory.delta (m.base r.memory.snapshot) r.memory.first.roots block c args)
       same
 
@@ -51,7 +51,7 @@ module _ {P S : Type 0} {m : Ghosts P S} {v w : Revision P S m} (same : v ≡ w)
       → IsAtJoin g v.run v.memory.delta (m.base v.memory.snapshot) v.memory.first.roots try on c
       → IsAtJoin g w.run w.memory.delta (m.base w.memory.snapshot) w.memory.first.roots try on c
   same_join g try on c =
-      subst (λ (r : Revision P S m).
+      subst (λ (r : RunningRevision P S m).
       IsAtJoin g r.run r.memory.delta (m.base r.memory.snapshot) r.memory.first.roots try on c)
       same
 
@@ -60,18 +60,18 @@ module _ {P S : Type 0} {m : Ghosts P S} {v w : Revision P S m} (same : v ≡ w)
       → IsClaimed g v.run v.memory.delta (m.base v.memory.snapshot) v.memory.first.roots try on e c j
       → IsClaimed g w.run w.memory.delta (m.base w.memory.snapshot) w.memory.first.roots try on e c j
   same_claimed g try on e c j =
-      subst (λ (r : Revision P S m).
+      subst (λ (r : RunningRevision P S m).
       IsClaimed g r.run r.memory.delta (m.base r.memory.snapshot) r.memory.first.roots try on e c j)
       same
 
   pub same_ready : IsReady v.run → IsReady w.run
-  same_ready = subst (λ (r : Revision P S m). IsReady r.run) same
+  same_ready = subst (λ (r : RunningRevision P S m). IsReady r.run) same
 
   pub same_waiting : IsWaiting v.run → IsWaiting w.run
-  same_waiting = subst (λ (r : Revision P S m). IsWaiting r.run) same
+  same_waiting = subst (λ (r : RunningRevision P S m). IsWaiting r.run) same
 
   pub same_past : (try : Bool) (r : Run) → IsPast try v.run r → IsPast try w.run r
-  same_past try r = subst (λ (x : Revision P S m). IsPast try x.run r) same
+  same_past try r = subst (λ (x : RunningRevision P S m). IsPast try x.run r) same
 
   pub same_wrote : (written : List Written) (values : List ℕ) (seen : ℕ → ℕ) (root : ℕ → Option ℕ)
       → HasWritten (m.size v.memory.snapshot) written values (under v.memory.delta (m.base v.memory.snapshot))
@@ -79,24 +79,24 @@ module _ {P S : Type 0} {m : Ghosts P S} {v w : Revision P S m} (same : v ≡ w)
       → HasWritten (m.size w.memory.snapshot) written values (under w.memory.delta (m.base w.memory.snapshot))
       (at w.memory.first.roots) seen root
   same_wrote written values seen root =
-      subst (λ (r : Revision P S m).
+      subst (λ (r : RunningRevision P S m).
       HasWritten (m.size r.memory.snapshot) written values (under r.memory.delta (m.base r.memory.snapshot))
       (at r.memory.first.roots) seen root)
       same
 
   pub same_noted : (on : ℕ) (r : Run) → IsNoted on v.run r → IsNoted on w.run r
-  same_noted on r = subst (λ (x : Revision P S m). IsNoted on x.run r) same
+  same_noted on r = subst (λ (x : RunningRevision P S m). IsNoted on x.run r) same
 
   pub same_room : (list : Vec Written Global) → HasRoom list (at v.memory.first.roots) (m.size v.memory.snapshot)
       → HasRoom list (at w.memory.first.roots) (m.size w.memory.snapshot)
   same_room list =
-      subst (λ (r : Revision P S m). HasRoom list (at r.memory.first.roots) (m.size r.memory.snapshot)) same
+      subst (λ (r : RunningRevision P S m). HasRoom list (at r.memory.first.roots) (m.size r.memory.snapshot)) same
 
   pub same_line : (e : Cause)
       → finish.Trapped (record { cause = e; line = v.run.registers.line; origin = None })
       ≡ finish.Trapped (record { cause = e; line = w.run.registers.line; origin = None })
   same_line e =
-      ap (λ (r : Revision P S m). finish.Trapped (record { cause = e; line = r.run.registers.line; origin = None }))
+      ap (λ (r : RunningRevision P S m). finish.Trapped (record { cause = e; line = r.run.registers.line; origin = None }))
       same
 
 module _ {P S : Type 0} {m : Ghosts P S} {v w : Memory P S m} (same : v ≡ w) where

@@ -12,12 +12,12 @@ use Rattle.rev_code.specs.State.{Location, State, seen}
 use Rattle.rev_code.specs.Step.{first_locals}
 use Rattle.rev_code.specs.Events as events
 use Rattle.code_soundness.specs.Typed.{IsRevision, AreLocations, location_kinds}
-use Rattle.code_soundness.specs.Whole.{notes_of}
+use Rattle.code_soundness.specs.AcceptedCode.{notes_of}
 use Rattle.code_rules.specs.Verdict.{first_fault}
 use Rattle.code_soundness.proofs.Accepting.{no_fault_accepted}
 use Rattle.code_soundness.proofs.Lists.{some_eq}
 use Rattle.code_soundness.proofs.Reaching.{procedures_start}
-use Rattle.plain_words.specs.Agreement.{AreWords}
+use Rattle.block_run.specs.Agreement.{AreWords}
 use Rattle.block_run.specs.declared.registers.Registers.{Registers}
 use Rattle.block_run.specs.Area.{count, low, stack_of}
 use Rattle.block_run.specs.Standing.{AreSeen, IsSeen}

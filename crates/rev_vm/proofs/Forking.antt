@@ -11,11 +11,11 @@ use Rattle.rev_code.specs.Step.{arguments, is_procedure, only, params}
 use Rattle.rev_code.specs.Events as events
 use Rattle.code_soundness.specs.Safe.{IsForked}
 use Rattle.code_soundness.specs.Typed.{IsRevision}
-use Rattle.code_soundness.specs.Whole.{IsAccepted, notes_of}
+use Rattle.code_soundness.specs.AcceptedCode.{IsAccepted, notes_of}
 use Rattle.code_soundness.proofs.Accepting.{no_fault_accepted}
 use Rattle.code_soundness.proofs.Lists.{kinds_length, reverse_length, some_eq}
 use Rattle.code_soundness.proofs.Reaching.{is_safe}
-use Rattle.plain_words.specs.Agreement.{AreWords}
+use Rattle.block_run.specs.Agreement.{AreWords}
 use Rattle.block_run.specs.declared.registers.Registers.{Registers}
 use Rattle.block_run.specs.Area.{count, low, stack_of}
 use Rattle.block_run.specs.Remembering.{Kept}

@@ -5,8 +5,8 @@ use Rattle.rev_code.specs.Words.{Word}
 use Rattle.rev_code.specs.State.{Listed, State, forked}
 use Rattle.rev_code.specs.Events as events
 use Rattle.code_soundness.specs.Typed.{IsRevision}
-use Rattle.code_soundness.specs.Whole.{notes_of}
-use Rattle.plain_words.specs.Agreement.{AreWords}
+use Rattle.code_soundness.specs.AcceptedCode.{notes_of}
+use Rattle.block_run.specs.Agreement.{AreWords}
 use Rattle.block_run.specs.declared.registers.Registers.{Registers}
 use Rattle.block_run.specs.Area.{low, stack_of}
 use Rattle.block_run.proofs.Onward.{words_length, stack_length}

@@ -9,8 +9,8 @@ use Rattle.rev_code.specs.declared.code.CodeBlock.{CodeBlock}
 use Rattle.rev_code.specs.declared.code.Code.{Code}
 use Rattle.rev_code.specs.State.{Frame, State}
 use Rattle.code_soundness.specs.Typed.{IsRevision}
-use Rattle.code_soundness.specs.Whole.{notes_of}
-use Rattle.plain_words.specs.Agreement.{AreWords}
+use Rattle.code_soundness.specs.AcceptedCode.{notes_of}
+use Rattle.block_run.specs.Agreement.{AreWords}
 use Rattle.block_run.specs.Area.{count, low, stack_of}
 use Rattle.block_run.specs.Standing.{AreSeen}
 use Rattle.fun_run.proofs.Slices.{take_shorter}

@@ -14,13 +14,13 @@ use Rattle.rev_code.specs.State.{Location, State, seen_at, written_at}
 use Rattle.rev_code.specs.Events.{told, past_join}
 use Rattle.code_soundness.specs.Safe.{joiner}
 use Rattle.code_soundness.specs.Typed.{AreLocations, location_kinds, IsRevision}
-use Rattle.code_soundness.specs.Whole.{IsAccepted, notes_of}
+use Rattle.code_soundness.specs.AcceptedCode.{IsAccepted, notes_of}
 use Rattle.code_soundness.proofs.Accepting.{no_fault_accepted}
 use Rattle.code_soundness.proofs.Lists.{some_within}
 use Rattle.code_soundness.proofs.Reaching.{is_safe}
 use Rattle.code_soundness.proofs.Variables.{seen_there}
-use Rattle.plain_words.specs.Agreement.{IsWord, AreWords}
-use Rattle.plain_words.specs.Plain.{flag}
+use Rattle.block_run.specs.Agreement.{IsWord, AreWords}
+use Rattle.block_run.specs.Plain.{flag}
 use Rattle.block_run.specs.declared.registers.Registers.{Registers}
 use Rattle.block_run.specs.Area.{count, low, stack_of}
 use Rattle.block_run.specs.Remembering.{Kept, written_below}

@@ -8,9 +8,9 @@ use Rattle.rev_code.specs.Words.{Word}
 use Rattle.rev_code.specs.State.{State, joined}
 use Rattle.rev_code.specs.Step.{ends, forks, joins, step, traps}
 use Rattle.code_soundness.specs.Typed.{IsRevision, location_kinds}
-use Rattle.code_soundness.specs.Whole.{notes_of}
+use Rattle.code_soundness.specs.AcceptedCode.{notes_of}
 use Rattle.code_soundness.proofs.Accepting.{no_fault_accepted}
-use Rattle.plain_words.specs.Agreement.{AreWords}
+use Rattle.block_run.specs.Agreement.{AreWords}
 use Rattle.block_run.specs.declared.registers.Registers.{Registers}
 use Rattle.block_run.specs.Area.{count, low, stack_of}
 use Rattle.block_run.specs.Remembering.{written_below}

@@ -24,11 +24,11 @@ use Rattle.code_rules.proofs.Limits.{small_parts}
 use Rattle.code_rules.specs.Verdict.{first_fault}
 use Rattle.code_soundness.proofs.Basics.{and_parts, some_eq}
 use Rattle.code_soundness.specs.Typed.{IsOfProgram}
-use Rattle.code_soundness.specs.Whole.{IsAccepted, notes_of}
+use Rattle.code_soundness.specs.AcceptedCode.{IsAccepted, notes_of}
 use Rattle.code_soundness.proofs.Accepting.{no_fault_accepted}
 use Rattle.code_soundness.proofs.Evaluating.{block_well, var_well}
 use Rattle.code_soundness.proofs.Variables.{start_kinds}
-use Rattle.plain_words.specs.Agreement.{IsWord}
+use Rattle.block_run.specs.Agreement.{IsWord}
 use Rattle.block_run.specs.Standing.{IsSeen}
 use Rattle.code_machine.specs.Local.{CodeRun, IsVerified}
 use Rattle.block_run.specs.Area.{count}

@@ -5,7 +5,7 @@ use Rattle.rev_code.specs.Words.{Word}
 use Rattle.rev_code.specs.State.{Location, written_at}
 use Rattle.version_map.specs.declared.end.Written.{Written}
 use Rattle.version_map.specs.Composing.{Entry}
-use Rattle.plain_words.specs.Agreement.{AreWords}
+use Rattle.block_run.specs.Agreement.{AreWords}
 use Rattle.block_run.specs.Standing.{AreSeen}
 use Rattle.block_run.specs.Remembering.{Wrote}
 use Rattle.block_run.proofs.Onward.{wrote_seen, written_length}

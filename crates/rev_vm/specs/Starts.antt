@@ -14,7 +14,7 @@ use Rattle.rev_code.specs.Words.{Word}
 use Rattle.rev_code.specs.State.{Location, State}
 use Rattle.rev_code.specs.Events as events
 use Rattle.code_soundness.specs.Typed.{AreLocations, location_kinds, IsOfProgram, kinds_of}
-use Rattle.plain_words.specs.Agreement.{AreWords}
+use Rattle.block_run.specs.Agreement.{AreWords}
 use Rattle.block_run.specs.Area.{count}
 use Rattle.block_run.specs.Standing.{AreSeen}
 use Rattle.code_machine.specs.Local.{CodeRun, IsVerified}

@@ -7,7 +7,7 @@ use Rattle.rev_code.specs.State.{Location}
 use Rattle.version_map.specs.declared.end.Written.{Written}
 use Rattle.version_map.specs.Composing.{Entry}
 use Rattle.block_run.specs.Standing.{AreSeen}
-use Rattle.plain_words.specs.Agreement.{AreWords}
+use Rattle.block_run.specs.Agreement.{AreWords}
 use Rattle.code_machine.specs.Joining.{written_all}
 
 abbrev pub AreAtEntries : List (Entry (Word ℕ)) → List Written → Type 0

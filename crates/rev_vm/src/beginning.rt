@@ -12,7 +12,7 @@ use crate::runner::{Beginning, Runner, Stage};
 use crate::spares::Spares;
 use crate::starting::begin_with;
 use block_run::Memory;
-use leg_run::{CodeSetting, Revision};
+use leg_run::{CodeSetting, RunningRevision};
 use std::alloc::Global;
 use version_map::Snapshot;
 
@@ -56,7 +56,7 @@ fn begin<P: Snapshot>(
     setting: &CodeSetting,
     beginning: Beginning<P>,
     spares: &mut Spares,
-) -> Result<Box<Revision<P>>, Broken<P>>
+) -> Result<Box<RunningRevision<P>>, Broken<P>>
     requires stands { (c : State ℕ) × BornAs (run_under setting.now) P.base P.size beginning c }
     ensures state { (c : State ℕ) → BornAs (run_under setting.now) P.base P.size beginning c
         → IfOk result (λ r. StandsAs (run_under setting.now) r.value c) }
@@ -73,7 +73,7 @@ fn begin<P: Snapshot>(
     match begin_with(alloc, setting, block, args.as_slice(), fuel, spares) {
         Ok(parts) => in_box(
             alloc,
-            Revision {
+            RunningRevision {
                 memory: Memory {
                     delta: parts.1,
                     first: parts.2,
@@ -93,7 +93,7 @@ pub(crate) fn begun<P: Snapshot>(
     setting: &CodeSetting,
     runner: Runner<P>,
     spares: &mut Spares,
-) -> Result<Box<Revision<P>>, Broken<P>>
+) -> Result<Box<RunningRevision<P>>, Broken<P>>
     requires stands { (c : State ℕ) × StandsFor (run_under setting.now) runner c }
     ensures state { (c : State ℕ) → StandsFor (run_under setting.now) runner c
         → IfOk result (λ r. StandsAs (run_under setting.now) r.value c) }

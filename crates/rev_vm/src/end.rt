@@ -9,7 +9,7 @@ ghost use Rattle.block_run.specs.Remembering.{HasRoom, written_below};
 
 use crate::spares::Spares;
 use block_run::Memory;
-use leg_run::Revision;
+use leg_run::RunningRevision;
 use rev_num::Items;
 use std::alloc::Global;
 use std::marker::Model;
@@ -18,7 +18,7 @@ use version_map::{EndValue, Finish, Snapshot, Written};
 /// A revision that is done or has trapped. It stays in its box until it is retired, so that it is
 /// small to move. Contracts see its snapshot and what it leaves.
 pub struct Stopped<P: Snapshot> {
-    pub(crate) revision: Box<Revision<P>>,
+    pub(crate) revision: Box<RunningRevision<P>>,
     pub(crate) written: Items<Written>,
     pub(crate) finish: Finish,
     ghost ascending: { IsAscending written },
@@ -54,7 +54,7 @@ pub fn retire<P: Snapshot>(stopped: Stopped<P>, spares: &mut Spares) -> (EndValu
         written,
         finish,
     } = stopped;
-    let Revision { memory, run } = Box::into_inner(revision);
+    let RunningRevision { memory, run } = Box::into_inner(revision);
     let Memory {
         delta,
         first,
@@ -89,8 +89,8 @@ impl<P: Snapshot> Broken<P> {
 /// memory.
 pub(crate) fn in_box<P: Snapshot>(
     alloc: Global,
-    revision: Revision<P>,
-) -> Result<Box<Revision<P>>, Broken<P>>
+    revision: RunningRevision<P>,
+) -> Result<Box<RunningRevision<P>>, Broken<P>>
     ensures ok { IfOk result (λ b. b.value ≡ revision) }
     ensures broken { IfErr result (λ b. b.snapshot ≡ revision.memory.snapshot) }
 {
@@ -102,7 +102,7 @@ pub(crate) fn in_box<P: Snapshot>(
 
 /// The revision as one that has ended.
 pub(crate) fn stop<P: Snapshot>(
-    revision: Box<Revision<P>>,
+    revision: Box<RunningRevision<P>>,
     written: Items<Written>,
     finish: Finish,
 ) -> Stopped<P>
@@ -122,7 +122,7 @@ pub(crate) fn stop<P: Snapshot>(
 
 /// The revision as one that has ended, with what it has written, listed where there is room for it.
 pub(crate) fn stop_in_room<P: Snapshot>(
-    mut revision: Box<Revision<P>>,
+    mut revision: Box<RunningRevision<P>>,
     room: Vec<Written>,
     finish: Finish,
 ) -> Stopped<P>
@@ -143,17 +143,17 @@ pub(crate) fn stop_in_room<P: Snapshot>(
 }
 
 /// The revision without all but its snapshot.
-pub(crate) fn break_off<P: Snapshot>(revision: Box<Revision<P>>) -> Broken<P>
+pub(crate) fn break_off<P: Snapshot>(revision: Box<RunningRevision<P>>) -> Broken<P>
     ensures { result.snapshot ≡ revision.value.memory.snapshot }
 {
     let_go(Box::into_inner(revision))
 }
 
 /// The same of a revision that is in no box.
-fn let_go<P: Snapshot>(revision: Revision<P>) -> Broken<P>
+fn let_go<P: Snapshot>(revision: RunningRevision<P>) -> Broken<P>
     ensures { result.snapshot ≡ revision.memory.snapshot }
 {
-    let Revision { memory, run } = revision;
+    let RunningRevision { memory, run } = revision;
     let Memory {
         delta,
         first,

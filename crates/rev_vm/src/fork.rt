@@ -18,13 +18,13 @@ use crate::beginning::born;
 use crate::end::{Broken, break_off};
 use crate::runner::{Beginning, Runner, Stage};
 use fun_run::params_of;
-use leg_run::{CodeSetting, Meeting, Revision, Run};
+use leg_run::{CodeSetting, Meeting, Run, RunningRevision};
 use std::alloc::{AllocError, Global};
 use version_map::{How, Snapshot};
 
 /// A revision at a Fork, and the block that its child runs.
 pub struct AtFork<P: Snapshot> {
-    pub(crate) revision: Box<Revision<P>>,
+    pub(crate) revision: Box<RunningRevision<P>>,
     pub(crate) block: u16,
 }
 
@@ -53,7 +53,7 @@ impl<P: Snapshot> BrokenFork<P> {
 /// A forker behind its Fork, which has yet to be told its child's number. Until then the number 0
 /// stands where that number comes, so that no more memory is taken.
 pub struct Parent<P: Snapshot> {
-    pub(crate) revision: Box<Revision<P>>,
+    pub(crate) revision: Box<RunningRevision<P>>,
     ghost waits: { IsWaiting revision.value.run },
 }
 
@@ -139,7 +139,7 @@ fn fork_off<P: Snapshot>(
     alloc: Global,
     setting: &CodeSetting,
     block: u16,
-    revision: &mut Revision<P>,
+    revision: &mut RunningRevision<P>,
 ) -> Result<(Beginning<P>, How), AllocError>
     requires at { (c : State _) × (args : List (Word _))
         × ForksAs (run_under setting.now) revision.old block c args }

@@ -5,7 +5,7 @@ ghost use Rattle.std.specs.Prelude.{option_copied, slice_get};
 ghost use Rattle.rev_code.specs.declared.code.CodeBlock.{CodeBlock};
 ghost use Rattle.rev_code.specs.Step.{params};
 ghost use Rattle.rev_code.specs.State.{State};
-ghost use Rattle.plain_words.specs.Agreement.{AreWords};
+ghost use Rattle.block_run.specs.Agreement.{AreWords};
 ghost use Rattle.code_machine.specs.Local.{CodeRun};
 ghost use Rattle.code_memos.specs.Leaf.{Fresh, IsFresh};
 ghost use Rattle.rev_vm.specs.Starts.{run_under};

@@ -10,7 +10,7 @@ ghost use Rattle.leg_run.specs.Noting.{HasMarked, marks_of};
 ghost use Rattle.leg_run.specs.Standing.{IsStanding, state_of};
 ghost use Rattle.rev_vm.specs.Starts.{run_under};
 
-use leg_run::{CodeSetting, LegEnd, Noted, Notes, Revision, run};
+use leg_run::{CodeSetting, LegEnd, Notes, ReadMarks, RunningRevision, run};
 use std::alloc::{AllocError, Global};
 use version_map::Snapshot;
 
@@ -18,7 +18,7 @@ use version_map::Snapshot;
 /// after which nothing is said of where the revision stands.
 pub(crate) fn run_plain<P: Snapshot>(
     setting: &CodeSetting,
-    revision: &mut Revision<P>,
+    revision: &mut RunningRevision<P>,
 ) -> Result<LegEnd, AllocError>
     requires size { P.size revision.old.memory.snapshot ≡ count setting.now.code.vars }
     requires stands { IsStanding setting.now.code setting.now.inputs.items setting.now.share
@@ -43,8 +43,8 @@ pub(crate) fn run_plain<P: Snapshot>(
 pub(crate) fn run_noting<P: Snapshot>(
     alloc: Global,
     setting: &CodeSetting,
-    revision: &mut Revision<P>,
-    noted: &mut Noted,
+    revision: &mut RunningRevision<P>,
+    noted: &mut ReadMarks,
 ) -> Result<LegEnd, AllocError>
     requires size { P.size revision.old.memory.snapshot ≡ count setting.now.code.vars }
     requires stands { IsStanding setting.now.code setting.now.inputs.items setting.now.share

@@ -14,13 +14,13 @@ ghost use Rattle.rev_vm.specs.States.{is_by_join};
 
 use crate::end::{Stopped, break_off, stop_in_room};
 use crate::runner::{Runner, Stage};
-use leg_run::{Revision, Run};
+use leg_run::{Run, RunningRevision};
 use version_map::{CodeTrap, EndValue, Finish, Snapshot, Written};
 
 /// A revision at a join. The join stands in its list of forks and joins already, and there is room
 /// for a list of what it has written, so that no call here takes memory.
 pub struct AtJoin<P: Snapshot> {
-    pub(crate) revision: Box<Revision<P>>,
+    pub(crate) revision: Box<RunningRevision<P>>,
     pub(crate) is_try: bool,
     pub(crate) on: u32,
     // The list is made where the revision stops here.

@@ -26,7 +26,7 @@ use crate::instructions::run_plain;
 use crate::join::AtJoin;
 use crate::runner::Runner;
 use crate::spares::Spares;
-use leg_run::{CodeSetting, LegEnd, Meeting, Revision, Run};
+use leg_run::{CodeSetting, LegEnd, Meeting, Run, RunningRevision};
 use rev_num::{Cause, Items};
 use std::alloc::{AllocError, Global};
 use version_map::{CodeTrap, Finish, Snapshot, Written};
@@ -53,7 +53,7 @@ fn note_join(run: &mut Run, on: u64) -> Result<(), AllocError>
 /// Lists a join, and gives room for a list of what the joiner has written so far.
 fn come_to_join<P: Snapshot>(
     alloc: Global,
-    revision: &mut Revision<P>,
+    revision: &mut RunningRevision<P>,
     on: u64,
 ) -> Result<Vec<Written>, AllocError>
     ensures noted { IfOk result (λ _. IsNoted on revision.old.run revision.new.run) }
@@ -69,7 +69,7 @@ fn come_to_join<P: Snapshot>(
 /// no forker, counts as want of memory.
 fn at_join<P: Snapshot>(
     alloc: Global,
-    mut revision: Box<Revision<P>>,
+    mut revision: Box<RunningRevision<P>>,
     is_try: bool,
     on: u64,
 ) -> Result<AtJoin<P>, Broken<P>>
@@ -100,7 +100,7 @@ fn at_join<P: Snapshot>(
 /// The revision as one that has ended, with what it has written.
 fn stop_at<P: Snapshot>(
     alloc: Global,
-    mut revision: Box<Revision<P>>,
+    mut revision: Box<RunningRevision<P>>,
     finish: Finish,
 ) -> Result<Stopped<P>, Broken<P>>
     ensures written { IfOk result (λ s. s.end.written ≡ written_below
@@ -134,7 +134,7 @@ fn own_trap(cause: Cause, line: u32) -> Finish
 /// join of a number of 2^32 or more counts.
 pub(crate) fn event_of<P: Snapshot>(
     alloc: Global,
-    revision: Box<Revision<P>>,
+    revision: Box<RunningRevision<P>>,
     end: LegEnd,
 ) -> Result<Event<P>, Broken<P>>
     requires come { (g : CodeRun) × (c : State ℕ) × HasComeTo g c end revision.value.run

@@ -25,7 +25,7 @@ use crate::instructions::run_noting;
 use crate::leg::{Event, event_of};
 use crate::runner::Runner;
 use crate::spares::Spares;
-use leg_run::{CodeSetting, Noted};
+use leg_run::{CodeSetting, ReadMarks};
 use std::alloc::Global;
 use version_map::Snapshot;
 
@@ -35,7 +35,7 @@ pub fn run_leg_noting<P: Snapshot>(
     runner: Runner<P>,
     setting: &CodeSetting,
     spares: &mut Spares,
-    noted: &mut Noted,
+    noted: &mut ReadMarks,
 ) -> Result<Event<P>, Broken<P>>
     requires stands { (c : State ℕ) × StandsFor (run_under setting.now) runner c }
     requires locations { locations noted.old.locations ≡ count setting.now.code.vars }

@@ -12,7 +12,7 @@ ghost use Rattle.rev_vm.specs.Values.{StandsFor, runner_delta, runner_group};
 
 use crate::beginning::{born, let_beginning_go};
 use crate::end::{Broken, break_off};
-use leg_run::{CodeSetting, Revision};
+use leg_run::{CodeSetting, RunningRevision};
 use std::alloc::Global;
 use version_map::Snapshot;
 
@@ -28,7 +28,7 @@ pub(crate) struct Beginning<P: Snapshot> {
 /// Where a revision stands that runs.
 pub(crate) enum Stage<P: Snapshot> {
     /// Behind its first leg, or in it.
-    Begun(Box<Revision<P>>),
+    Begun(Box<RunningRevision<P>>),
     /// Before its first leg.
     Born(Box<Beginning<P>>),
 }

@@ -29,7 +29,7 @@ use crate::join::{AtJoin, Claimed, tell};
 use crate::memory::{read_all, write_all};
 use crate::runner::{Runner, Stage};
 use block_run::Memory;
-use leg_run::{Revision, Run};
+use leg_run::{Run, RunningRevision};
 use rev_num::Cause;
 use std::alloc::{AllocError, Global};
 use version_map::{
@@ -141,11 +141,11 @@ fn fault_at(trap: MergeTrap, line: u32) -> Finish
 
 /// The joiner with what the joined revision left.
 fn take_over<P: Snapshot>(
-    mut revision: Box<Revision<P>>,
+    mut revision: Box<RunningRevision<P>>,
     is_try: bool,
     end: EndValue,
     values: Vec<u64>,
-) -> Result<Box<Revision<P>>, Broken<P>>
+) -> Result<Box<RunningRevision<P>>, Broken<P>>
     requires ready { IsReady revision.value.run }
     requires fuel { revision.value.run.registers.fuel + end.fuel < 2 ^ 64 }
     requires within { All (λ w. w.location < P.size revision.value.memory.snapshot) end.written }

@@ -3,7 +3,7 @@
 ghost use Rattle.std.specs.Prelude.{◌≡◌, ◌<◌, IfOk, Some, length, slice_get};
 ghost use Rattle.rev_code.specs.declared.code.CodeBlock.{CodeBlock};
 ghost use Rattle.rev_code.specs.Step.{params};
-ghost use Rattle.code_soundness.specs.Whole.{notes_of, IsAccepted};
+ghost use Rattle.code_soundness.specs.AcceptedCode.{notes_of, IsAccepted};
 ghost use Rattle.block_run.specs.Area.{count};
 ghost use Rattle.version_map.specs.Deltas.{locations, IsEmpty};
 ghost use Rattle.rev_vm.specs.Starts.{Begins};

@@ -1,3 +1,4 @@
+-- Proofs of rev_words: the command line, and the text of the load program.
 pub mod Each
 pub mod Lists
 pub mod Loads

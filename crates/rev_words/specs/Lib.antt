@@ -1,3 +1,4 @@
+-- Definitions of rev_words: the command line, and the text of the load program.
 pub mod Answer
 pub mod Command
 pub mod Each

@@ -6,7 +6,7 @@ ghost use Rattle.rev_words.specs.declared.fault.WordsFault.TheVariants.{OutOfMem
 use std::alloc::{AllocError, AllocFailed};
 
 /// Why words say nothing.
-#[derive(Clone, Copy, PartialEq, Eq, Debug)]
+#[derive(Clone, Copy)]
 pub enum WordsFault {
     /// The command does not take the words, or a value breaks its rule.
     Usage,

@@ -28,7 +28,7 @@ use settings::{is_flagged, mode_of, setting, small_setting};
 use std::alloc::Global;
 
 /// What a call does.
-#[derive(Clone, Copy, PartialEq, Eq, Debug)]
+#[derive(Clone, Copy)]
 pub enum Mode {
     /// Reads the text of a program, runs it and reports its outcome.
     Run,
@@ -60,7 +60,7 @@ pub enum Mode {
 }
 
 /// What words say.
-#[derive(PartialEq, Eq, Debug, Drop)]
+#[derive(Drop)]
 pub struct Words {
     pub mode: Mode,
     /// The input numbers, at most 1,024.

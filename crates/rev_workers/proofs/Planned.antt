@@ -6,9 +6,9 @@ use Rattle.rev_num.specs.Words.{int_of}
 use Rattle.rev_syntax.specs.Trees.{Expression}
 use Rattle.rev_code.specs.declared.code.Code.{Code}
 use Rattle.rev_code.specs.Words.{Word, int, bool, rev, kind_of}
-use Rattle.code_soundness.specs.Whole.{IsAccepted, notes_of}
-use Rattle.plain_words.specs.Agreement.{IsWord}
-use Rattle.plain_words.proofs.Numbers.{int_fits}
+use Rattle.code_soundness.specs.AcceptedCode.{IsAccepted, notes_of}
+use Rattle.block_run.specs.Agreement.{IsWord}
+use Rattle.block_run.proofs.Numbers.{int_fits}
 use Rattle.code_machine.specs.Local.{CodeRun}
 use Rattle.fun_run.specs.Merging.{AreMergesOf, IsMerged, word_merges, word_or_fault, merged_words}
 use Rattle.fun_run.proofs.Blocks.{int_there}

@@ -11,4 +11,4 @@ pub use code_run::{NotRun, run_code};
 pub use hands::{StoreHand, StoreRevisions};
 pub use keeper::StoreKeeper;
 pub use merges::KernelMerges;
-pub use threads::{NotRan, Ran, run_threads};
+pub use threads::{NotRan, StoreRan, run_threads};

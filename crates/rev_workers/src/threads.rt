@@ -32,7 +32,7 @@ use version_map::MergeBy;
 
 /// What threads leave of a run that did not end for want of memory.
 #[derive(Drop)]
-pub struct Ran<'a> {
+pub struct StoreRan<'a> {
     /// The schedule, the ends and the forkers.
     pub run: HubRun<StoreRevisions<'a, 'a, BlockMerges<'a>>>,
     /// How many children got words of their own, up to 2^64 - 1.
@@ -194,7 +194,7 @@ pub fn run_threads<'a, 'k, G: Gate + Sync, R: Threads + Wait + Sync>(
     segments: u32,
     gate: &G,
     plan: &'k KernelPlan<'k>,
-) -> Result<Ran<'a>, NotRan>
+) -> Result<StoreRan<'a>, NotRan>
     requires some { 0 < workers }
     requires plan { IsPlanFor setting.now.code plan.now.choices.items
         (map (λ k. definition k.def) plan.now.kernels.now) }
@@ -223,7 +223,7 @@ pub fn run_threads<'a, 'k, G: Gate + Sync, R: Threads + Wait + Sync>(
     if live > 0 {
         return Err(NotRan::InUse(closed));
     }
-    Ok(Ran {
+    Ok(StoreRan {
         run,
         copies,
         live,

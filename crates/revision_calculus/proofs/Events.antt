@@ -18,7 +18,7 @@ use Rattle.revision_calculus.specs.State.{write_at, Frame, Phase, running, joini
 use Rattle.revision_calculus.specs.Evaluation.{eval, evals, set, give, cell_location}
 use Rattle.revision_calculus.specs.Step as spec
 use Rattle.revision_calculus.specs.Step.{traps, with_answer, enter, select, most_frames, frame_of, calls, end_frame, part, forker, new_child, joins, item_texts, line_of, by_right, does, begins, by_rest, by_frames, by_phase, next}
-use Rattle.revision_calculus.specs.Held.{IsHandle, FramesHold, Holds, in_locations, in_frames, in_phase, beyond_first, weight_at, weight}
+use Rattle.revision_calculus.specs.HandlesHeld.{IsHandle, FramesHold, Holds, in_locations, in_frames, in_phase, beyond_first, weight_at, weight}
 use Rattle.revision_calculus.proofs.Values.{OfOk, OfEach}
 use Rattle.revision_calculus.proofs.Handles.{fresh_held, Held, not_held, locals_of_held, eval_held, evals_held}
 use Rattle.revision_calculus.proofs.Moves.{weight_running, Stepped, Moved, stepped, Split, Paid, same_held, trap_ok, Assigned, assigned_weight, location_assigned, set_assigned, give_assigned, assigned_ok, enter_ok, enter_twice, call_ok, finish_ok, return_ok}

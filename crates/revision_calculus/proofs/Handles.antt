@@ -13,7 +13,7 @@ use Rattle.revision_calculus.specs.Program.{variable_named, Setting}
 use Rattle.revision_calculus.specs.State.{Location, view, view_at, write_at, fresh, Frame, Local}
 use Rattle.revision_calculus.specs.Evaluation.{top_locals, read_shared, env, eval, evals, with_local}
 use Rattle.revision_calculus.specs.Step.{locals_of}
-use Rattle.revision_calculus.specs.Held.{IsHandle, LocationsHold, LocalsHold, FramesHold, Holds, in_locations, in_frames}
+use Rattle.revision_calculus.specs.HandlesHeld.{IsHandle, LocationsHold, LocalsHold, FramesHold, Holds, in_locations, in_frames}
 use Rattle.revision_calculus.proofs.Values.{OfOk, OfOthers, OfEach, OfEnv, OfShared, OfLocal, value_ok, values_ok, funs_ok}
 
 -- ---- locations

@@ -14,7 +14,7 @@ use Rattle.revision_calculus.specs.Program.{Setting}
 use Rattle.revision_calculus.specs.State.{Location, view, Phase, running, joining, done, trapped, Local}
 use Rattle.revision_calculus.specs.Evaluation.{give}
 use Rattle.revision_calculus.specs.Join.{merges_of, merge_of_numbers, number_value, new_value, overwrite, join_location, Composition, merged, faults, and_later, compose, absorb, inherit, join_in, left_side, note, join}
-use Rattle.revision_calculus.specs.Held.{IsHandle, LocationsHold, Holds, in_locations, in_frames, in_phase, beyond_first, weight_at, weight}
+use Rattle.revision_calculus.specs.HandlesHeld.{IsHandle, LocationsHold, Holds, in_locations, in_frames, in_phase, beyond_first, weight_at, weight}
 use Rattle.revision_calculus.proofs.Values.{OfOk}
 use Rattle.revision_calculus.proofs.Moves.{same_held, Assigned, assigned_weight, give_assigned}
 

@@ -1,3 +1,4 @@
+-- Proofs of revision_calculus: what a program means, with its laws.
 pub mod Played
 pub mod Values
 pub mod Handles

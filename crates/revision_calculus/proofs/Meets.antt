@@ -15,7 +15,7 @@ use Rattle.revision_calculus.specs.State.{running, joining, fresh, Local}
 use Rattle.revision_calculus.specs.Step.{next}
 use Rattle.revision_calculus.specs.Join.{join}
 use Rattle.revision_calculus.specs.Calculus.{start_values, main, calculus}
-use Rattle.revision_calculus.specs.Held.{IsHandle, LocationsHold, Holds, in_locations, in_frames, in_phase, weight}
+use Rattle.revision_calculus.specs.HandlesHeld.{IsHandle, LocationsHold, Holds, in_locations, in_frames, in_phase, weight}
 use Rattle.revision_calculus.proofs.Moves.{Moved}
 use Rattle.revision_calculus.proofs.Events.{ForkOk, WantOk, EventOk, event_ok, joins_phase, ended_phase}
 use Rattle.revision_calculus.proofs.Joining.{JoinOk, join_ok, join_forks}

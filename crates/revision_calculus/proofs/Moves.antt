@@ -11,7 +11,7 @@ use Rattle.revision_calculus.specs.Program.{variable_named, Setting}
 use Rattle.revision_calculus.specs.State.{write_at, Frame, Phase, running, joining, done, trapped, Local}
 use Rattle.revision_calculus.specs.Evaluation.{on_top, set_local, set_named, set, give}
 use Rattle.revision_calculus.specs.Step.{enter, append, frame_of, finish, end_frame}
-use Rattle.revision_calculus.specs.Held.{IsHandle, LocationsHold, LocalsHold, FramesHold, Holds, in_locations, in_frames, in_phase, beyond_first, weight_at, weight}
+use Rattle.revision_calculus.specs.HandlesHeld.{IsHandle, LocationsHold, LocalsHold, FramesHold, Holds, in_locations, in_frames, in_phase, beyond_first, weight_at, weight}
 use Rattle.revision_calculus.proofs.Values.{OfEach}
 use Rattle.revision_calculus.proofs.Handles.{write_held, with_local_held, Held, not_held, locals_of_held}
 

@@ -16,7 +16,7 @@ use Rattle.revision_calculus.specs.State.{Phase, running, joining, done, trapped
 use Rattle.revision_calculus.specs.Step.{next}
 use Rattle.revision_calculus.specs.Calculus.{main, calculus}
 use Rattle.revision_calculus.specs.Outcome.{end_as, main_outcome, show_all, outcome}
-use Rattle.revision_calculus.specs.Held.{Holds, weight}
+use Rattle.revision_calculus.specs.HandlesHeld.{Holds, weight}
 use Rattle.revision_calculus.specs.Complete.{start_of, OneOutcome}
 use Rattle.revision_calculus.proofs.Events.{ended_phase}
 use Rattle.revision_calculus.proofs.Meets.{counts, handles, main_holds_none, spends_weight}

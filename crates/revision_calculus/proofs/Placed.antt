@@ -7,7 +7,7 @@ use Rattle.rev_syntax.specs.Trees.{ArraySize, SharedDeclaration, Declaration, fu
 use Rattle.merge_decl.specs.Names.{Name}
 use Rattle.revision_machine.specs.Machine.{Entry, Global, Twice, Live}
 use Rattle.revision_machine.specs.Laws.{local_of, Everywhere}
-use Rattle.revision_machine.proofs.Kept.{kept_law}
+use Rattle.revision_machine.proofs.KeptByEvents.{kept_law}
 use Rattle.rev_types.specs.Layout.{variable_behind, variables_behind, variables}
 use Rattle.rev_types.specs.Limits.{cells}
 use Rattle.rev_types.specs.Scopes.{cells_of}
@@ -15,7 +15,7 @@ use Rattle.revision_calculus.specs.Program.{Setting}
 use Rattle.revision_calculus.specs.State.{Location, Phase, running, joining, done, trapped, Local}
 use Rattle.revision_calculus.specs.Calculus.{main, calculus}
 use Rattle.revision_calculus.specs.Outcome.{show_cells, show_variable, show_all, end_as, main_outcome, outcome}
-use Rattle.revision_calculus.specs.Kept.{location_count, IsTrapBelow, IsShaped, IsPlaced, PlaceLaw}
+use Rattle.revision_calculus.specs.KeptBySteps.{location_count, IsTrapBelow, IsShaped, IsPlaced, PlaceLaw}
 use Rattle.revision_calculus.proofs.Shapes.{shape_kept, main_shaped}
 
 cells_count : (name : Name) (ls : List Location) (base cell count : ℕ)

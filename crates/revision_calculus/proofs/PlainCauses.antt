@@ -13,7 +13,7 @@ use Rattle.revision_calculus.specs.Program.{variable_named, Setting}
 use Rattle.revision_calculus.specs.State.{Local}
 use Rattle.revision_calculus.specs.Evaluation.{read_shared, env, eval, evals, location_of, cell_location}
 use Rattle.revision_calculus.specs.Step.{select, item_text, item_texts}
-use Rattle.revision_calculus.specs.Kept.{IsFaultBelow}
+use Rattle.revision_calculus.specs.KeptBySteps.{IsFaultBelow}
 use Rattle.revision_calculus.proofs.Causes.{OfErr, any_inputs, any_all, any_bodies, then_err, cond_err, cell_err, value_err, values_err, funs_err}
 
 abbrev pub IsPlain : Cause → Type 0

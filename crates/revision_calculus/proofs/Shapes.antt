@@ -29,7 +29,7 @@ use Rattle.revision_calculus.specs.Join.{merges_of, join_location, Composition, 
 use Rattle.revision_calculus.specs.Calculus.{start_values, main, calculus}
 use Rattle.revision_calculus.proofs.Causes.{OfErr}
 use Rattle.revision_calculus.proofs.PlainCauses.{IsPlain, plain_below, eval_plain, evals_plain, cell_plain, taken_plain, items_plain}
-use Rattle.revision_calculus.specs.Kept.{location_count, IsAtWork, IsFaultBelow, IsTrapBelow, IsShaped}
+use Rattle.revision_calculus.specs.KeptBySteps.{location_count, IsAtWork, IsFaultBelow, IsTrapBelow, IsShaped}
 
 write_length : (ms : List Location) (n : ℕ) (x : Value) → length (write_at ms n x) ≡ length ms
 write_length [] n x = refl

@@ -15,7 +15,7 @@ use Rattle.rev_syntax.specs.Trees as t
 use Rattle.rev_syntax.specs.Small.{name_formed, expression_small, expressions_small, right_side_small, statement_small, statements_small, arms_small}
 use Rattle.revision_machine.specs.Machine.{Event, Moves, Forks, Joins, Ended, Global, Twice, Live}
 use Rattle.revision_machine.specs.Laws.{local_of, Everywhere}
-use Rattle.revision_machine.proofs.Kept.{kept_law}
+use Rattle.revision_machine.proofs.KeptByEvents.{kept_law}
 use Rattle.revision_machine.specs.Conditions.{IsKept}
 use Rattle.merge_decl.specs.Names.{Name}
 use Rattle.merge_decl.specs.Table.{find, added}

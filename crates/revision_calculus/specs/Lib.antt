@@ -1,3 +1,4 @@
+-- Definitions of revision_calculus: what a program means, with its laws.
 pub mod Program
 pub mod State
 pub mod Evaluation
@@ -5,8 +6,8 @@ pub mod Step
 pub mod Join
 pub mod Calculus
 pub mod Outcome
-pub mod Held
-pub mod Kept
+pub mod HandlesHeld
+pub mod KeptBySteps
 pub mod Kinded
 pub mod Complete
 pub mod Words

@@ -22,8 +22,8 @@ ghost use Rattle.revision_machine.specs.Laws.{
 ghost use Rattle.revision_calculus.specs.Program.{Setting};
 ghost use Rattle.revision_calculus.specs.Calculus.{calculus, main};
 ghost use Rattle.revision_calculus.specs.Complete.{OneOutcome};
-ghost use Rattle.revision_calculus.specs.Held.{Holds};
-ghost use Rattle.revision_calculus.specs.Kept.{IsShaped, PlaceLaw};
+ghost use Rattle.revision_calculus.specs.HandlesHeld.{Holds};
+ghost use Rattle.revision_calculus.specs.KeptBySteps.{IsShaped, PlaceLaw};
 ghost use Rattle.revision_calculus.specs.Tight.{Takes};
 ghost use Rattle.revision_calculus.specs.Kinded.{IsKinded, IsAccepted, JoinLaw, MergeLaw, ValueLaw};
 

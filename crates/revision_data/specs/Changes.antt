@@ -7,7 +7,7 @@ use Rattle.rev_num.specs.declared.value.Value.{Value}
 use Rattle.rev_num.specs.declared.value.NumFault.{NumFault}
 use Rattle.revision_calculus.specs.State.{Location, with_write, write_at}
 use Rattle.revision_calculus.specs.Join.{Composition, merged, faults}
-use Rattle.revision_data.specs.declared.changes.Fault.{Fault}
+use Rattle.revision_data.specs.declared.changes.FaultedMerge.{FaultedMerge}
 
 -- the location, with this written, if something is
 abbrev pub changed : Location → Option Value → Location
@@ -35,6 +35,6 @@ in_front ms (merged later) = merged (ms ++ later)
 in_front ms (faults n f) = faults n f
 
 -- what changes of these locations, or a fault, give
-abbrev pub composed : List Location → Result (Vec (Option Value) Global) Fault → Composition
+abbrev pub composed : List Location → Result (Vec (Option Value) Global) FaultedMerge → Composition
 composed ms (Ok cs) = merged (put ms cs.items)
 composed ms (Err x) = faults x.location x.fault

@@ -14,7 +14,7 @@ use std::alloc::{AllocError, Global};
 
 /// The least location whose merge faults, with the fault.
 #[derive(Clone, Copy, Drop)]
-pub struct Fault {
+pub struct FaultedMerge {
     pub location: u32,
     pub fault: NumFault,
 }
@@ -72,7 +72,7 @@ pub fn compose(
     merges: &[Option<u32>],
     joiner: &[Location],
     joinee: &[Location],
-) -> Result<Result<Vec<Option<Value>>, Fault>, AllocError>
+) -> Result<Result<Vec<Option<Value>>, FaultedMerge>, AllocError>
     requires known { (k n : ℕ) → slice_get merges.now k ≡ Some (Some n)
         → n < length typed.now.expanded.merges }
     requires few { length merges.now < 2 ^ 32 }
@@ -86,7 +86,7 @@ pub fn compose(
             Ok(change) => changes.push(change)?,
             Err(fault) => {
                 let location = n as u32;
-                return Ok(Err(Fault { location, fault }));
+                return Ok(Err(FaultedMerge { location, fault }));
             }
         }
     }

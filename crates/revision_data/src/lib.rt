@@ -9,7 +9,7 @@ mod shown;
 mod text;
 mod values;
 
-pub use changes::{Fault, compose, write_all};
+pub use changes::{FaultedMerge, compose, write_all};
 pub use location::{Location, copy_locations, snapshot, value_at, write_at};
 pub use merging::merged_value;
 pub use shown::shown_values;

@@ -5,7 +5,7 @@ use Rattle.revision_machine.specs.Machine.{Machine, Entry, Global, Twice, Live, 
 use Rattle.revision_machine.specs.Conditions.{Counts, Spends}
 use Rattle.revision_machine.specs.Laws.{IsIn, Amounts, CompletionLaw}
 use Rattle.revision_machine.proofs.Census.{spending_law, bound_law, no_cost}
-use Rattle.revision_machine.proofs.Lift.{runs_on}
+use Rattle.revision_machine.proofs.SimulatedRuns.{runs_on}
 
 module _ (M : Machine) where
   -- a revision that can step, and the state after its step

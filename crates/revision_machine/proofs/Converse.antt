@@ -11,7 +11,7 @@ use Rattle.revision_machine.proofs.Paths.{at_here, at_other}
 use Rattle.rev_num.proofs.PostOrder.{before_irrefl}
 use Rattle.rev_num.proofs.Options.{none_some}
 use Rattle.revision_machine.proofs.Blocked.{handle_law, going_on, waits_at, all_ended}
-use Rattle.revision_machine.proofs.Lift.{runs_on, quietly, plain_of, run_law, final_of}
+use Rattle.revision_machine.proofs.SimulatedRuns.{runs_on, quietly, plain_of, run_law, final_of}
 use Rattle.revision_machine.proofs.Bearing.{runs_of}
 
 module _ (A B : Machine) (R : Path → A.Local → B.Local → Type 0) (Known : Path → Type 0) (a : A.Local)

@@ -3,7 +3,7 @@ use Rattle.std.proofs.Common.{◌≡◌, ◌≢◌, ◌⊎◌, inl, inr, List, O
 use Rattle.rev_num.specs.Path.{Path}
 use Rattle.rev_num.proofs.Options.{none_some}
 use Rattle.revision_machine.specs.Machine.{Event, Moves, Forks, Joins, Ended, Machine, Entry, Plain, Joined, Global, Twice, Live, Revisions, step, step_at, happens, join_at, join_ended}
-use Rattle.revision_machine.specs.declared.state.Revision.{Revision}
+use Rattle.revision_machine.specs.declared.state.RevisionRow.{RevisionRow}
 use Rattle.revision_machine.specs.declared.one_step.StepOutcome.{StepOutcome}
 use Rattle.revision_machine.specs.declared.one_step.StepOutcome.TheVariants as outcome
 use Rattle.revision_machine.specs.RevisionList.{globe}
@@ -161,7 +161,7 @@ module _ (M : Machine) where
       twice' outcome.NoSuch t e = absurd (subst (λ v. IsMissing M v r) (sym t.1 ∙ e) t.0)
 
   -- from the lists
-  pub told : (a : StepOutcome) (r : Path) (old new : List (Revision M.Local)) → Does M a r old new
+  pub told : (a : StepOutcome) (r : Path) (old new : List (RevisionRow M.Local)) → Does M a r old new
       → Tells M a r (Live (globe old)) (global_after a new)
   told outcome.Moved r old new d = record { steps = d; live = live (globe new) (Live (globe new)) refl }
   told (outcome.Waits q) r old new d = (d.0, ap (λ v. Live (globe v)) d.1)

@@ -4,7 +4,7 @@ use Rattle.rev_num.specs.Path.{Path}
 use Rattle.revision_machine.specs.Machine.{Joins, Ended, Machine, Plain, Twice, Live, step}
 use Rattle.revision_machine.specs.Conditions.{Counts, Handles, Spends}
 use Rattle.revision_machine.specs.Laws.{IsDistinct}
-use Rattle.revision_machine.specs.declared.state.Revision.{Revision}
+use Rattle.revision_machine.specs.declared.state.RevisionRow.{RevisionRow}
 use Rattle.revision_machine.specs.RevisionList.{paths, entry_with, globe}
 use Rattle.revision_machine.specs.StepOutcomes.{WaitsOn, IsReached}
 use Rattle.revision_machine.specs.ListStep.{IsAt, with_state, with_mark}
@@ -14,9 +14,9 @@ use Rattle.revision_machine.proofs.Steps.{Reads, shown_at, twice, waits, differ,
 use Rattle.revision_machine.proofs.Reached.{target_stands, room_two}
 
 -- the list after the join, read with any default
-abbrev pub IsAfter : (M : Machine) → List (Revision M.Local) → ℕ → ℕ → List (Revision M.Local) → Type 0
+abbrev pub IsAfter : (M : Machine) → List (RevisionRow M.Local) → ℕ → ℕ → List (RevisionRow M.Local) → Type 0
 IsAfter M revisions i j new =
-    (d : Revision M.Local)
+    (d : RevisionRow M.Local)
     → new
     ≡ set (set revisions i (with_state (get_or revisions i d)
     (M.join (get_or revisions i d).path (get_or revisions i d).state (get_or revisions j d).path
@@ -24,7 +24,7 @@ IsAfter M revisions i j new =
     j (with_mark (get_or revisions j d))
 
 -- the same, written through a slice of the whole list
-pub after_of : (M : Machine) (revisions res new : List (Revision M.Local)) (i j n : ℕ) → res ≡ revisions
+pub after_of : (M : Machine) (revisions res new : List (RevisionRow M.Local)) (i j n : ℕ) → res ≡ revisions
     → length new ≡ length res → n ≡ length revisions → IsAfter M res i j new
     → IsAfter M revisions i j (take n (new ++ drop (length new) revisions))
 after_of M revisions res new i j n value kept len after =
@@ -32,39 +32,39 @@ after_of M revisions res new i j n value kept len after =
     (subst (λ v. IsAfter M v i j new) value after)
 
 -- the paths stay as they were
-pub after_paths : (M : Machine) (revisions : List (Revision M.Local)) (i : ℕ) (q : Path) → i < length revisions
-    → (j : ℕ) → IsAt revisions j q → Revision M.Local
-    → (new : List (Revision M.Local)) → IsAfter M revisions i j new → paths new ≡ paths revisions
+pub after_paths : (M : Machine) (revisions : List (RevisionRow M.Local)) (i : ℕ) (q : Path) → i < length revisions
+    → (j : ℕ) → IsAt revisions j q → RevisionRow M.Local
+    → (new : List (RevisionRow M.Local)) → IsAfter M revisions i j new → paths new ≡ paths revisions
 after_paths M revisions i q lt j there d new after =
     ap paths (after d) ∙ paths_two revisions i j d _ _ lt there.within refl refl
 
 -- one that is read to have ended has done so, read with any default
-pub ends_at : (M : Machine) (revisions : List (Revision M.Local)) (q : Path) (j : ℕ) → IsAt revisions j q
-    → (y : Revision M.Local) → Reads revisions j y
-    → M.next q y.state ≡ Ended → (d : Revision M.Local)
+pub ends_at : (M : Machine) (revisions : List (RevisionRow M.Local)) (q : Path) (j : ℕ) → IsAt revisions j q
+    → (y : RevisionRow M.Local) → Reads revisions j y
+    → M.next q y.state ≡ Ended → (d : RevisionRow M.Local)
     → M.next (get_or revisions j d).path (get_or revisions j d).state ≡ Ended
 ends_at M revisions q j there y s ended d =
     ap (λ p. M.next p (get_or revisions j d).state) (there.path d)
     ∙ ap (λ v. M.next q v.state) (sym (read_is revisions j there.within d y s)) ∙ ended
 
-module _ (M : Machine) (revisions : List (Revision M.Local)) (i : ℕ) (q : Path)
+module _ (M : Machine) (revisions : List (RevisionRow M.Local)) (i : ℕ) (q : Path)
     (distinct : IsDistinct (paths revisions)) (lt : i < length revisions)
-    (plain : (d : Revision M.Local) → (get_or revisions i d).joined ≡ false)
-    (joins : (d : Revision M.Local) → M.next (get_or revisions i d).path (get_or revisions i d).state ≡ Joins q) where
-  here : (d : Revision M.Local)
+    (plain : (d : RevisionRow M.Local) → (get_or revisions i d).joined ≡ false)
+    (joins : (d : RevisionRow M.Local) → M.next (get_or revisions i d).path (get_or revisions i d).state ≡ Joins q) where
+  here : (d : RevisionRow M.Local)
       → globe revisions (get_or revisions i d).path ≡ Some (Plain (get_or revisions i d).state)
   here d = shown_at revisions i (get_or revisions i d).path (get_or revisions i d) distinct (at_place revisions i lt d)
       (reads revisions i lt d)
       ∙ ap (λ b. Some (entry_with b (get_or revisions i d).state)) (plain d)
 
-  module _ (j : ℕ) (there : IsAt revisions j q) (y : Revision M.Local) (s : Reads revisions j y) where
-    pub at_twice : y.joined ≡ true → (d : Revision M.Local)
+  module _ (j : ℕ) (there : IsAt revisions j q) (y : RevisionRow M.Local) (s : Reads revisions j y) where
+    pub at_twice : y.joined ≡ true → (d : RevisionRow M.Local)
         → step M (Live (globe revisions)) (get_or revisions i d).path ≡ Some Twice
     at_twice e d =
         twice M revisions i (get_or revisions i d).path distinct (at_place revisions i lt d) (get_or revisions i d)
         (reads revisions i lt d) q (plain d) (joins d) j there y s e
 
-    pub at_waits : y.joined ≡ false → M.next q y.state ≢ Ended → (d : Revision M.Local)
+    pub at_waits : y.joined ≡ false → M.next q y.state ≢ Ended → (d : RevisionRow M.Local)
         → WaitsOn M (globe revisions) (get_or revisions i d).path q
     at_waits e f d =
         waits M revisions i (get_or revisions i d).path distinct (at_place revisions i lt d) (get_or revisions i d)
@@ -75,10 +75,10 @@ module _ (M : Machine) (revisions : List (Revision M.Local)) (i : ℕ) (q : Path
         differ M revisions i y'.path distinct (at_place revisions i lt y) y' (reads revisions i lt y) q (plain y)
         (joins y) j there y s e f (sym g)
       where
-        y' : Revision M.Local
+        y' : RevisionRow M.Local
         y' = get_or revisions i y
 
-    after_is : (new : List (Revision M.Local)) → IsAfter M revisions i j new → (d : Revision M.Local)
+    after_is : (new : List (RevisionRow M.Local)) → IsAfter M revisions i j new → (d : RevisionRow M.Local)
         → new
         ≡ set (set revisions i (with_state (get_or revisions i d)
         (M.join (get_or revisions i d).path (get_or revisions i d).state q (get_or revisions j d).state)))
@@ -92,16 +92,16 @@ module _ (M : Machine) (revisions : List (Revision M.Local)) (i : ℕ) (q : Path
         (there.path d)
 
     module _ (unmarked : y.joined ≡ false) (ended : M.next q y.state ≡ Ended) where
-      same : (d : Revision M.Local) → y ≡ get_or revisions j d
+      same : (d : RevisionRow M.Local) → y ≡ get_or revisions j d
       same d = read_is revisions j there.within d y s
 
-      unmarked_at : (d : Revision M.Local) → (get_or revisions j d).joined ≡ false
+      unmarked_at : (d : RevisionRow M.Local) → (get_or revisions j d).joined ≡ false
       unmarked_at d = ap (λ v. v.joined) (sym (same d)) ∙ unmarked
 
-      ended_at : (d : Revision M.Local) → M.next q (get_or revisions j d).state ≡ Ended
+      ended_at : (d : RevisionRow M.Local) → M.next q (get_or revisions j d).state ≡ Ended
       ended_at d = ap (λ v. M.next q v.state) (sym (same d)) ∙ ended
 
-      pub at_joins : (new : List (Revision M.Local)) → IsAfter M revisions i j new → (d : Revision M.Local)
+      pub at_joins : (new : List (RevisionRow M.Local)) → IsAfter M revisions i j new → (d : RevisionRow M.Local)
           → step M (Live (globe revisions)) (get_or revisions i d).path ≡ Some (Live (globe new))
       at_joins new after d =
           joins_both M revisions i (get_or revisions i d).path distinct (at_place revisions i lt d)
@@ -109,7 +109,7 @@ module _ (M : Machine) (revisions : List (Revision M.Local)) (i : ℕ) (q : Path
           (reads revisions j there.within d) (unmarked_at d) (ended_at d)
           ∙ ap (λ v. Some (Live (globe v))) (sym (after_is new after d))
 
-      pub after_distinct : (new : List (Revision M.Local)) → IsAfter M revisions i j new → IsDistinct (paths new)
+      pub after_distinct : (new : List (RevisionRow M.Local)) → IsAfter M revisions i j new → IsDistinct (paths new)
       after_distinct new after =
           subst (λ v. IsDistinct (paths v)) (sym (after y))
           (distinct_both M revisions i (get_or revisions i y).path distinct (at_place revisions i lt y)
@@ -118,7 +118,7 @@ module _ (M : Machine) (revisions : List (Revision M.Local)) (i : ℕ) (q : Path
 
       pub at_room : (holds : M.Local → Path → Type 0) (weight : M.Local → ℕ) (limit : ℕ) → Counts M → Handles M holds
           → Spends M 1 weight → IsReached M holds (λ l. M.forks l + weight l) limit (Live (globe revisions))
-          → (d : Revision M.Local)
+          → (d : RevisionRow M.Local)
           → M.forks (get_or revisions i d).state + weight (get_or revisions i d).state
           + (M.forks (get_or revisions j d).state + weight (get_or revisions j d).state)
           ≤ limit

@@ -9,7 +9,7 @@ use Rattle.revision_machine.specs.Simulation.{Simulates, Agrees, StepsTo}
 use Rattle.revision_machine.specs.Numbered.{Numbered, Entries, World, Both, Listing, at_number, leg, Replays, machine_by, paths_of, globe_of, shows, HasPaths, ReadsAs}
 use Rattle.revision_machine.specs.Schedules.{LegsAgree, LegLaw}
 use Rattle.revision_machine.proofs.Numbers.{none_some, at_paths, paths_with, LegIs}
-use Rattle.revision_machine.proofs.Lift.{step_law, agree_put}
+use Rattle.revision_machine.proofs.SimulatedRuns.{step_law, agree_put}
 use Rattle.revision_machine.proofs.Schedules.{leg_of_read, read_leg, begins}
 use Rattle.revision_machine.proofs.Bearing.{in_front, in_back}
 

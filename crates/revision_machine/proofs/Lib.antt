@@ -1,3 +1,5 @@
+-- Proofs of revision_machine: the theory of revisions for every machine of them, and a runner for every language
+-- of them.
 pub mod Paths
 pub mod Way
 pub mod Diamond
@@ -10,8 +12,8 @@ pub mod Census
 pub mod Totals
 pub mod Blocked
 pub mod Bearing
-pub mod Lift
-pub mod Kept
+pub mod SimulatedRuns
+pub mod KeptByEvents
 pub mod Completion
 pub mod Converse
 pub mod Lists

@@ -11,7 +11,7 @@ use mathlib.Core.Path.{fun_ext}
 use Rattle.rev_num.specs.Path.{Path, same}
 use Rattle.revision_machine.specs.PathIndex.{against, place_by, IsEntered, IsPlace, IsIndexed}
 use Rattle.revision_machine.specs.Laws.{IsIn}
-use Rattle.revision_machine.specs.declared.state.Revision.{Revision}
+use Rattle.revision_machine.specs.declared.state.RevisionRow.{RevisionRow}
 use Rattle.revision_machine.specs.RevisionList.{paths, globe}
 use Rattle.revision_machine.specs.ListStep.{IsAt}
 use Rattle.rev_num.proofs.Maps.{other_found}
@@ -70,7 +70,7 @@ length-take_within i xs lt = omega (arith, length-take i xs)
 
 -- a new revision
 pub indexed_forked :
-    {L : Type 0} (m n : BTreeMap Key ℕ) (ss set_to : List (Revision L)) (t : Revision L) (p : Path) (k : ℕ)
+    {L : Type 0} (m n : BTreeMap Key ℕ) (ss set_to : List (RevisionRow L)) (t : RevisionRow L) (p : Path) (k : ℕ)
     → paths set_to ≡ paths ss → t.path ≡ p → k ≡ length set_to → IsIndexed m (paths ss) → IsEntered m n p k
     → IsIndexed n (paths (set_to ++ t ∷ []))
 indexed_forked m n ss set_to t p k same_paths tp place indexed entered =
@@ -80,7 +80,7 @@ indexed_forked m n ss set_to t p k same_paths tp place indexed entered =
     (subst (λ v. IsEntered m n v k) (sym tp) entered)))
 
 -- one more revision of a list
-pub indexed_more : {L : Type 0} (m n : BTreeMap Key ℕ) (ss : List (Revision L)) (i : ℕ) (x : Revision L) → i < length ss
+pub indexed_more : {L : Type 0} (m n : BTreeMap Key ℕ) (ss : List (RevisionRow L)) (i : ℕ) (x : RevisionRow L) → i < length ss
     → x ≡ get_or ss i x
     → IsIndexed m (paths (take i ss)) → IsEntered m n x.path i → IsIndexed n (paths (take (i + 1) ss))
 indexed_more m n ss i x lt r indexed entered =
@@ -90,22 +90,22 @@ indexed_more m n ss i x lt r indexed entered =
 
 -- ---- the place of a path
 
-path_at : {L : Type 0} (ss : List (Revision L)) (i : ℕ) (p : Path) → slice_get (paths ss) i ≡ Some p → IsAt ss i p
+path_at : {L : Type 0} (ss : List (RevisionRow L)) (i : ℕ) (p : Path) → slice_get (paths ss) i ≡ Some p → IsAt ss i p
 path_at [] i p e = absurd cc
 path_at (s ∷ ss) zero p e = record { within = omega arith; path = λ d. (let f : Some s.path ≡ Some p = e in cc) }
 path_at (s ∷ ss) (suc i) p e =
     let a = path_at ss i p e in record { within = (let h = a.within in omega arith); path = λ d. a.path d }
 
-pub found_at : {L : Type 0} (places : BTreeMap Key ℕ) (ss : List (Revision L)) (p : Path) (i : ℕ)
+pub found_at : {L : Type 0} (places : BTreeMap Key ℕ) (ss : List (RevisionRow L)) (p : Path) (i : ℕ)
     → IsIndexed places (paths ss) → place_by places p ≡ Some i → IsAt ss i p
 found_at places ss p i indexed e = path_at ss i p (subst (IsPlace p (paths ss)) e (indexed p))
 
-pub not_found : {L : Type 0} (places : BTreeMap Key ℕ) (ss : List (Revision L)) (p : Path) → IsIndexed places (paths ss)
+pub not_found : {L : Type 0} (places : BTreeMap Key ℕ) (ss : List (RevisionRow L)) (p : Path) → IsIndexed places (paths ss)
     → place_by places p ≡ None → globe ss p ≡ None
 not_found places ss p indexed e = globe_out ss p (subst (IsPlace p (paths ss)) e (indexed p))
 
 -- what a look-up says of the list
-pub looked_up : {L : Type 0} (places : BTreeMap Key ℕ) (ss : List (Revision L)) (p : Path) → IsIndexed places (paths ss)
+pub looked_up : {L : Type 0} (places : BTreeMap Key ℕ) (ss : List (RevisionRow L)) (p : Path) → IsIndexed places (paths ss)
     → (o : Option ℕ) → o ≡ place_by places p → MatchOption o (globe ss p ≡ None) (λ i. IsAt ss i p)
 looked_up places ss p indexed None e = not_found places ss p indexed (sym e)
 looked_up places ss p indexed (Some i) e = found_at places ss p i indexed (sym e)

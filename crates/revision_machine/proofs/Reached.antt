@@ -7,7 +7,7 @@ use Rattle.revision_machine.specs.Laws.{IsForked}
 use Rattle.revision_machine.proofs.Ends.{reached_forked}
 use Rattle.revision_machine.proofs.Blocked.{handle_law}
 use Rattle.revision_machine.proofs.Totals.{counted_spends, amount_one, amount_two}
-use Rattle.revision_machine.proofs.Lift.{runs_on}
+use Rattle.revision_machine.proofs.SimulatedRuns.{runs_on}
 use Rattle.revision_machine.specs.StepOutcomes.{IsReached}
 
 module _ (M : Machine) (holds : M.Local → Path → Type 0) (weight : M.Local → ℕ) (limit : ℕ) (counts : Counts M)

@@ -6,7 +6,7 @@ use Rattle.revision_machine.specs.Machine.{Entry}
 use Rattle.revision_machine.specs.Laws.{IsIn, IsDistinct, Census}
 use Rattle.revision_machine.proofs.Paths.{swap, overwrite, at_here, at_other, distinct_more}
 use Rattle.rev_num.proofs.PostOrder.{same_refl, same-eq}
-use Rattle.revision_machine.specs.declared.state.Revision.{Revision}
+use Rattle.revision_machine.specs.declared.state.RevisionRow.{RevisionRow}
 use Rattle.revision_machine.specs.RevisionList.{paths, entry_of, globe}
 use Rattle.revision_machine.specs.ListStep.{IsAt}
 
@@ -22,12 +22,12 @@ in-push (r ∷ ps) p q (inr h) = go (in-push ps p q h)
 
 module _ {L : Type 0} where
   -- a path that no revision has
-  pub globe_out : (ss : List (Revision L)) (p : Path) → (IsIn p (paths ss) → ⊥) → globe ss p ≡ None
+  pub globe_out : (ss : List (RevisionRow L)) (p : Path) → (IsIn p (paths ss) → ⊥) → globe ss p ≡ None
   globe_out [] p out = refl
   globe_out (s ∷ ss) p out =
       at_other (globe ss) s.path (entry_of s) p (λ e. out (inl (sym e))) ∙ globe_out ss p (λ i. out (inr i))
 
-  pub in_globe : (ss : List (Revision L)) (p : Path) → globe ss p ≡ None → IsIn p (paths ss) → ⊥
+  pub in_globe : (ss : List (RevisionRow L)) (p : Path) → globe ss p ≡ None → IsIn p (paths ss) → ⊥
   in_globe [] p e none = none
   in_globe (s ∷ ss) p e (inl is) =
       let clash : Some (entry_of s) ≡ None =
@@ -40,13 +40,13 @@ module _ {L : Type 0} where
           let clash : Some (entry_of s) ≡ None = sym (ap (λ b. cond b (Some (entry_of s)) (globe ss p)) f) ∙ e in cc
       go later false f = later (sym (ap (λ b. cond b (Some (entry_of s)) (globe ss p)) f) ∙ e) is
 
-  in_paths : (ss : List (Revision L)) (i : ℕ) (d : Revision L) → i < length ss → IsIn (get_or ss i d).path (paths ss)
+  in_paths : (ss : List (RevisionRow L)) (i : ℕ) (d : RevisionRow L) → i < length ss → IsIn (get_or ss i d).path (paths ss)
   in_paths [] i d lt = absurd (omega arith)
   in_paths (s ∷ ss) zero d lt = inl refl
   in_paths (s ∷ ss) (suc i) d lt = inr (in_paths ss i d (omega arith))
 
   -- what stands at a place
-  pub globe_at : (ss : List (Revision L)) (i : ℕ) (d : Revision L) → IsDistinct (paths ss) → i < length ss
+  pub globe_at : (ss : List (RevisionRow L)) (i : ℕ) (d : RevisionRow L) → IsDistinct (paths ss) → i < length ss
       → globe ss (get_or ss i d).path ≡ Some (entry_of (get_or ss i d))
   globe_at [] i d distinct lt = absurd (omega arith)
   globe_at (s ∷ ss) zero d distinct lt = at_here (globe ss) s.path (entry_of s)
@@ -56,7 +56,7 @@ module _ {L : Type 0} where
       at_other (globe ss) s.path (entry_of s) (get_or ss i d).path apart ∙ globe_at ss i d distinct.1 (omega arith)
 
   -- a revision with its state or mark changed
-  pub globe-set : (ss : List (Revision L)) (i : ℕ) (d t : Revision L) → IsDistinct (paths ss) → i < length ss
+  pub globe-set : (ss : List (RevisionRow L)) (i : ℕ) (d t : RevisionRow L) → IsDistinct (paths ss) → i < length ss
       → t.path ≡ (get_or ss i d).path → globe (set ss i t) ≡ with_at (globe ss) t.path (entry_of t)
   globe-set [] i d t distinct lt is = absurd (omega arith)
   globe-set (s ∷ ss) zero d t distinct lt is =
@@ -69,7 +69,7 @@ module _ {L : Type 0} where
       ∙ swap (globe ss) t.path s.path (entry_of t) (entry_of s) apart
 
   -- the path at a place stays
-  path_set : (ss : List (Revision L)) (i j : ℕ) (d t : Revision L) → i < length ss → j < length ss
+  path_set : (ss : List (RevisionRow L)) (i j : ℕ) (d t : RevisionRow L) → i < length ss → j < length ss
       → t.path ≡ (get_or ss i d).path → (get_or (set ss i t) j d).path ≡ (get_or ss j d).path
   path_set [] i j d t lt lu e = refl
   path_set (s ∷ ss) zero zero d t lt lu e = e
@@ -77,14 +77,14 @@ module _ {L : Type 0} where
   path_set (s ∷ ss) (suc i) zero d t lt lu e = refl
   path_set (s ∷ ss) (suc i) (suc j) d t lt lu e = path_set ss i j d t (omega arith) (omega arith) e
 
-  pub paths-set : (ss : List (Revision L)) (i : ℕ) (d t : Revision L) → i < length ss → t.path ≡ (get_or ss i d).path
+  pub paths-set : (ss : List (RevisionRow L)) (i : ℕ) (d t : RevisionRow L) → i < length ss → t.path ≡ (get_or ss i d).path
       → paths (set ss i t) ≡ paths ss
   paths-set [] i d t lt is = refl
   paths-set (s ∷ ss) zero d t lt is = ap (λ v. v ∷ paths ss) is
   paths-set (s ∷ ss) (suc i) d t lt is = ap (λ v. s.path ∷ v) (paths-set ss i d t (omega arith) is)
 
   -- two with their states or marks changed
-  pub paths_two : (ss : List (Revision L)) (i j : ℕ) (d t u : Revision L) → i < length ss → j < length ss
+  pub paths_two : (ss : List (RevisionRow L)) (i j : ℕ) (d t u : RevisionRow L) → i < length ss → j < length ss
       → t.path ≡ (get_or ss i d).path → u.path ≡ (get_or ss j d).path
       → paths (set (set ss i t) j u) ≡ paths ss
   paths_two ss i j d t u lt lu e f =
@@ -92,41 +92,41 @@ module _ {L : Type 0} where
       paths-set (set ss i t) j d u within (f ∙ sym (path_set ss i j d t lt lu e)) ∙ paths-set ss i d t lt e
 
   -- a revision for a new path
-  pub globe-push : (ss : List (Revision L)) (t : Revision L) → (IsIn t.path (paths ss) → ⊥)
+  pub globe-push : (ss : List (RevisionRow L)) (t : RevisionRow L) → (IsIn t.path (paths ss) → ⊥)
       → globe (ss ++ t ∷ []) ≡ with_at (globe ss) t.path (entry_of t)
   globe-push [] t out = refl
   globe-push (s ∷ ss) t out =
       ap (λ m. with_at m s.path (entry_of s)) (globe-push ss t (λ v. out (inr v)))
       ∙ swap (globe ss) t.path s.path (entry_of t) (entry_of s) (λ e. out (inl e))
 
-  pub length-paths : (ss : List (Revision L)) → length (paths ss) ≡ length ss
+  pub length-paths : (ss : List (RevisionRow L)) → length (paths ss) ≡ length ss
   length-paths [] = refl
   length-paths (s ∷ ss) = ap suc (length-paths ss)
 
-  pub paths-push : (ss : List (Revision L)) (t : Revision L) → paths (ss ++ t ∷ []) ≡ paths ss ++ t.path ∷ []
+  pub paths-push : (ss : List (RevisionRow L)) (t : RevisionRow L) → paths (ss ++ t ∷ []) ≡ paths ss ++ t.path ∷ []
   paths-push [] t = refl
   paths-push (s ∷ ss) t = ap (λ v. s.path ∷ v) (paths-push ss t)
 
-  pub distinct_revisions-push : (ss : List (Revision L)) (t : Revision L) → IsDistinct (paths ss)
+  pub distinct_revisions-push : (ss : List (RevisionRow L)) (t : RevisionRow L) → IsDistinct (paths ss)
       → (IsIn t.path (paths ss) → ⊥) → IsDistinct (paths (ss ++ t ∷ []))
   distinct_revisions-push ss t distinct out =
       subst IsDistinct (sym (paths-push ss t)) (distinct_more (paths ss) t.path distinct out)
 
   -- a path that stands in the state is that of a revision
-  pub where_stands : (ss : List (Revision L)) (p : Path) (e : Entry L) → globe ss p ≡ Some e
-      → (i : ℕ) × IsAt ss i p × Revision L
+  pub where_stands : (ss : List (RevisionRow L)) (p : Path) (e : Entry L) → globe ss p ≡ Some e
+      → (i : ℕ) × IsAt ss i p × RevisionRow L
   where_stands [] p e f = absurd cc
   where_stands (s ∷ ss) p e f = go (λ g. where_stands ss p e g) (same s.path p) refl
     where
-      go : (globe ss p ≡ Some e → (i : ℕ) × IsAt ss i p × Revision L) → (b : Bool) → same s.path p ≡ b
-          → (i : ℕ) × IsAt (s ∷ ss) i p × Revision L
+      go : (globe ss p ≡ Some e → (i : ℕ) × IsAt ss i p × RevisionRow L) → (b : Bool) → same s.path p ≡ b
+          → (i : ℕ) × IsAt (s ∷ ss) i p × RevisionRow L
       go later true g = (0, record { within = omega arith; path = λ d. same-eq s.path p g }, s)
       go later false g =
           let w = later (sym (ap (λ b. cond b (Some (entry_of s)) (globe ss p)) g) ∙ f) in
           (suc w.0, record { within = (let h = w.1.within in omega arith); path = λ d. w.1.path d }, w.2)
 
   -- the revisions are all that the state has
-  in_revisions : (ss : List (Revision L)) (p : Path) (e : Entry L) → globe ss p ≡ Some e → IsIn p (paths ss)
+  in_revisions : (ss : List (RevisionRow L)) (p : Path) (e : Entry L) → globe ss p ≡ Some e → IsIn p (paths ss)
   in_revisions [] p e f = absurd cc
   in_revisions (s ∷ ss) p e f = go (λ g. in_revisions ss p e g) (same s.path p) refl
     where
@@ -134,7 +134,7 @@ module _ {L : Type 0} where
       go later true g = inl (sym (same-eq s.path p g))
       go later false g = inr (later (sym (ap (λ b. cond b (Some (entry_of s)) (globe ss p)) g) ∙ f))
 
-  revision_of : (ss : List (Revision L)) (p : Path) → IsIn p (paths ss) → (e : Entry L) × (globe ss p ≡ Some e)
+  revision_of : (ss : List (RevisionRow L)) (p : Path) → IsIn p (paths ss) → (e : Entry L) × (globe ss p ≡ Some e)
   revision_of [] p i = absurd i
   revision_of (s ∷ ss) p (inl is) =
       (entry_of s, ap (λ b. cond b (Some (entry_of s)) (globe ss p)) (ap (λ v. same v p) (sym is) ∙ same_refl p))
@@ -145,5 +145,5 @@ module _ {L : Type 0} where
       go later true g = (entry_of s, ap (λ b. cond b (Some (entry_of s)) (globe ss p)) g)
       go later false g = (later.0, ap (λ b. cond b (Some (entry_of s)) (globe ss p)) g ∙ later.1)
 
-  pub revisions_census : (ss : List (Revision L)) → IsDistinct (paths ss) → Census (globe ss) (paths ss)
+  pub revisions_census : (ss : List (RevisionRow L)) → IsDistinct (paths ss) → Census (globe ss) (paths ss)
   revisions_census ss distinct = record { each = revision_of ss; all = in_revisions ss; distinct = distinct }

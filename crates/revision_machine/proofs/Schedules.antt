@@ -16,7 +16,7 @@ use Rattle.rev_num.proofs.PostOrder.{same-eq}
 use Rattle.revision_machine.proofs.Forker.{fresh_of}
 use Rattle.revision_machine.proofs.Ends.{reached_forked}
 use Rattle.revision_machine.proofs.Census.{bound_law}
-use Rattle.revision_machine.proofs.Lift.{run_law}
+use Rattle.revision_machine.proofs.SimulatedRuns.{run_law}
 use Rattle.revision_machine.proofs.Numbers.{none_some, at_paths, in_at, in_paths, globe_there, paths_with, LegIs, leg_is, distinct_front}
 
 paths_at-append : (t : List Path) (ns ms : List ℕ) → paths_at t (ns ++ ms) ≡ paths_at t ns ++ paths_at t ms

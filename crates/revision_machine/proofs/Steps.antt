@@ -7,37 +7,37 @@ use Rattle.revision_machine.specs.Machine.{Moves, Forks, Joins, Ended, Machine, 
 use Rattle.revision_machine.specs.Laws.{IsIn, IsDistinct, IsForked}
 use Rattle.revision_machine.proofs.Forker.{fresh_of}
 use Rattle.revision_machine.proofs.Way.{ended_apart}
-use Rattle.revision_machine.specs.declared.state.Revision.{Revision}
+use Rattle.revision_machine.specs.declared.state.RevisionRow.{RevisionRow}
 use Rattle.revision_machine.specs.RevisionList.{paths, entry_with, entry_of, globe}
 use Rattle.revision_machine.specs.StepOutcomes.{WaitsOn, IsEndedEntry}
 use Rattle.revision_machine.specs.ListStep.{IsAt, with_state, with_mark}
 use Rattle.revision_machine.proofs.RevisionList.{globe_at, globe-set, globe-push, paths-set, in_globe, distinct_revisions-push}
 
 -- x is read at the place i
-abbrev pub Reads : {L : Type 0} → List (Revision L) → ℕ → Revision L → Type 0
+abbrev pub Reads : {L : Type 0} → List (RevisionRow L) → ℕ → RevisionRow L → Type 0
 Reads revisions i x = x ≡ get_or revisions i x
 
 module _ {L : Type 0} where
-  pub same_read : (revisions : List (Revision L)) (i : ℕ) (x y : Revision L) → i < length revisions
+  pub same_read : (revisions : List (RevisionRow L)) (i : ℕ) (x y : RevisionRow L) → i < length revisions
       → Reads revisions i x → Reads revisions i y → x ≡ y
   same_read revisions i x y lt a b = a ∙ get_or_default revisions i x y lt ∙ sym b
 
-  read_path : (revisions : List (Revision L)) (i : ℕ) (p : Path) (x : Revision L) → IsAt revisions i p
+  read_path : (revisions : List (RevisionRow L)) (i : ℕ) (p : Path) (x : RevisionRow L) → IsAt revisions i p
       → Reads revisions i x → x.path ≡ p
   read_path revisions i p x at r = ap (λ v. v.path) r ∙ at.path x
 
-  pub set_back : (revisions : List (Revision L)) (i : ℕ) (x : Revision L) (l : L) → Reads revisions i x → l ≡ x.state
+  pub set_back : (revisions : List (RevisionRow L)) (i : ℕ) (x : RevisionRow L) (l : L) → Reads revisions i x → l ≡ x.state
       → set revisions i (with_state x l) ≡ revisions
   set_back revisions i x l r e =
       ap (λ v. set revisions i (with_state x v)) e ∙ ap (set revisions i) r ∙ set-get_or revisions i x
 
-  pub distinct_set : (revisions : List (Revision L)) (i : ℕ) (x t : Revision L) → IsDistinct (paths revisions)
+  pub distinct_set : (revisions : List (RevisionRow L)) (i : ℕ) (x t : RevisionRow L) → IsDistinct (paths revisions)
       → i < length revisions → Reads revisions i x → t.path ≡ x.path → IsDistinct (paths (set revisions i t))
   distinct_set revisions i x t d lt r e =
       subst IsDistinct (sym (paths-set revisions i x t lt (e ∙ ap (λ v. v.path) r))) d
 
   -- one revision with its state or mark changed
-  pub shown_set : (revisions : List (Revision L)) (i : ℕ) (p : Path) (x t : Revision L) → IsDistinct (paths revisions)
+  pub shown_set : (revisions : List (RevisionRow L)) (i : ℕ) (p : Path) (x t : RevisionRow L) → IsDistinct (paths revisions)
       → IsAt revisions i p → Reads revisions i x → t.path ≡ x.path
       → globe (set revisions i t) ≡ with_at (globe revisions) p (entry_of t)
   shown_set revisions i p x t d at r e =
@@ -45,13 +45,13 @@ module _ {L : Type 0} where
       ∙ ap (λ v. with_at (globe revisions) v (entry_of t)) (e ∙ read_path revisions i p x at r)
 
   -- what stands there
-  pub shown_at : (revisions : List (Revision L)) (i : ℕ) (p : Path) (x : Revision L) → IsDistinct (paths revisions)
+  pub shown_at : (revisions : List (RevisionRow L)) (i : ℕ) (p : Path) (x : RevisionRow L) → IsDistinct (paths revisions)
       → IsAt revisions i p → Reads revisions i x → globe revisions p ≡ Some (entry_of x)
   shown_at revisions i p x d at r =
       ap (globe revisions) (sym (at.path x)) ∙ globe_at revisions i x d at.within ∙ ap (λ v. Some (entry_of v)) (sym r)
 
-module _ (M : Machine) (revisions : List (Revision M.Local)) (i : ℕ) (p : Path)
-    (distinct : IsDistinct (paths revisions)) (at : IsAt revisions i p) (x : Revision M.Local)
+module _ (M : Machine) (revisions : List (RevisionRow M.Local)) (i : ℕ) (p : Path)
+    (distinct : IsDistinct (paths revisions)) (at : IsAt revisions i p) (x : RevisionRow M.Local)
     (r : Reads revisions i x) where
   stands : (b : Bool) → x.joined ≡ b → globe revisions p ≡ Some (entry_with b x.state)
   stands b e = shown_at revisions i p x distinct at r ∙ ap (λ b. Some (entry_with b x.state)) e
@@ -80,7 +80,7 @@ module _ (M : Machine) (revisions : List (Revision M.Local)) (i : ℕ) (p : Path
         (fresh_of M (globe revisions) forked p x.state
         (shown_at revisions i p x distinct at r ∙ ap (λ b. Some (entry_with b x.state)) e))
 
-    pub distinct_forked : x.joined ≡ false → (l : M.Local) (t : Revision M.Local) → t.path ≡ child p (M.forks x.state)
+    pub distinct_forked : x.joined ≡ false → (l : M.Local) (t : RevisionRow M.Local) → t.path ≡ child p (M.forks x.state)
         → IsDistinct (paths (set revisions i (with_state x l) ++ t ∷ []))
     distinct_forked e l t f =
         let ps : paths (set revisions i (with_state x l)) ≡ paths revisions =
@@ -88,7 +88,7 @@ module _ (M : Machine) (revisions : List (Revision M.Local)) (i : ℕ) (p : Path
         distinct_revisions-push (set revisions i (with_state x l)) t (subst IsDistinct (sym ps) distinct)
         (λ v. out e (subst (λ w. IsIn w (paths revisions)) f (subst (IsIn t.path) ps v)))
 
-    pub forks : x.joined ≡ false → (l c : M.Local) (t : Revision M.Local) → M.next p x.state ≡ Forks l c
+    pub forks : x.joined ≡ false → (l c : M.Local) (t : RevisionRow M.Local) → M.next p x.state ≡ Forks l c
         → t.path ≡ child p (M.forks x.state) → entry_of t ≡ Plain c
         → step M (Live (globe revisions)) p ≡ Some (Live (globe (set revisions i (with_state x l) ++ t ∷ [])))
     forks e l c t f tp te =
@@ -110,7 +110,7 @@ module _ (M : Machine) (revisions : List (Revision M.Local)) (i : ℕ) (p : Path
     wants : step M (Live (globe revisions)) p ≡ join_at M (globe revisions) p x.state q (globe revisions q)
     wants = does plain ∙ ap (happens M (globe revisions) p x.state) joins
 
-    module _ (j : ℕ) (there : IsAt revisions j q) (y : Revision M.Local) (s : Reads revisions j y) where
+    module _ (j : ℕ) (there : IsAt revisions j q) (y : RevisionRow M.Local) (s : Reads revisions j y) where
       pub twice : y.joined ≡ true → step M (Live (globe revisions)) p ≡ Some Twice
       twice e = wants
           ∙ ap (join_at M (globe revisions) p x.state q)
@@ -143,12 +143,12 @@ module _ (M : Machine) (revisions : List (Revision M.Local)) (i : ℕ) (p : Path
       differ e f g = apart_paths e f (sym (at.path x) ∙ ap (λ n. (get_or revisions n x).path) (sym g) ∙ there.path x)
 
       -- the joinee's revision is as it was
-      other_read : y.joined ≡ false → M.next q y.state ≡ Ended → (l : M.Local) (z : Revision M.Local)
+      other_read : y.joined ≡ false → M.next q y.state ≡ Ended → (l : M.Local) (z : RevisionRow M.Local)
           → Reads (set revisions i (with_state x l)) j z → z ≡ y
       other_read e f l z t =
           same_read revisions j z y there.within (t ∙ get_or-set_other revisions i j (with_state x l) z (differ e f)) s
 
-      pub distinct_joined : (l : M.Local) (z : Revision M.Local) → Reads (set revisions i (with_state x l)) j z
+      pub distinct_joined : (l : M.Local) (z : RevisionRow M.Local) → Reads (set revisions i (with_state x l)) j z
           → IsDistinct (paths (set (set revisions i (with_state x l)) j (with_mark z)))
       distinct_joined l z t =
           let within : j < length (set revisions i (with_state x l)) =
@@ -157,11 +157,11 @@ module _ (M : Machine) (revisions : List (Revision M.Local)) (i : ℕ) (p : Path
           (distinct_set revisions i x (with_state x l) distinct at.within r refl) within t refl
 
       pub joined : y.joined ≡ false → M.next q y.state ≡ Ended → (l : M.Local) → l ≡ M.join p x.state q y.state
-          → (z : Revision M.Local) → Reads (set revisions i (with_state x l)) j z
+          → (z : RevisionRow M.Local) → Reads (set revisions i (with_state x l)) j z
           → step M (Live (globe revisions)) p
           ≡ Some (Live (globe (set (set revisions i (with_state x l)) j (with_mark z))))
       joined e f l le z t =
-          let a : Revision M.Local = with_state x l in
+          let a : RevisionRow M.Local = with_state x l in
           let zy : z ≡ y = other_read e f l z t in
           let within : j < length (set revisions i a) =
           subst (λ n. j < n) (sym (length-set revisions i a)) there.within in
@@ -197,18 +197,18 @@ module _ (M : Machine) (revisions : List (Revision M.Local)) (i : ℕ) (p : Path
       distinct_both e f l = distinct_joined l y (read_after e f l)
 
 -- what stands at a place, read with any default
-module _ {L : Type 0} (revisions : List (Revision L)) (i : ℕ) (lt : i < length revisions) (d : Revision L) where
+module _ {L : Type 0} (revisions : List (RevisionRow L)) (i : ℕ) (lt : i < length revisions) (d : RevisionRow L) where
   pub reads : Reads revisions i (get_or revisions i d)
   reads = get_or_default revisions i d (get_or revisions i d) lt
 
   pub at_place : IsAt revisions i (get_or revisions i d).path
   at_place = record { within = lt; path = λ e. ap (λ v. v.path) (get_or_default revisions i e d lt) }
 
-  pub read_is : (x : Revision L) → Reads revisions i x → x ≡ get_or revisions i d
+  pub read_is : (x : RevisionRow L) → Reads revisions i x → x ≡ get_or revisions i d
   read_is x r = r ∙ get_or_default revisions i x d lt
 
-pub revision_at : {L : Type 0} (revisions : List (Revision L)) (i : ℕ) → i < length revisions
-    → (x : Revision L) × Reads revisions i x
+pub revision_at : {L : Type 0} (revisions : List (RevisionRow L)) (i : ℕ) → i < length revisions
+    → (x : RevisionRow L) × Reads revisions i x
 revision_at [] i lt = absurd (omega arith)
 revision_at (s ∷ ss) zero lt = (s, refl)
 revision_at (s ∷ ss) (suc i) lt = revision_at ss i (omega arith)

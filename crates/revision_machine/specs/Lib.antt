@@ -1,3 +1,5 @@
+-- Definitions of revision_machine: the theory of revisions for every machine of them, and a runner for every
+-- language of them.
 pub mod PathMap
 pub mod Machine
 pub mod Conditions

@@ -5,9 +5,9 @@ use Rattle.rev_num.specs.Path.{Path}
 use Rattle.revision_machine.specs.PathMap.{PathMap, with_at}
 use Rattle.revision_machine.specs.Machine.{Entry, Plain, Joined}
 use Rattle.revision_machine.specs.Laws.{IsDistinct}
-use Rattle.revision_machine.specs.declared.state.Revision.{Revision}
+use Rattle.revision_machine.specs.declared.state.RevisionRow.{RevisionRow}
 
-abbrev pub paths : {L : Type 0} → List (Revision L) → List Path
+abbrev pub paths : {L : Type 0} → List (RevisionRow L) → List Path
 paths [] = []
 paths (s ∷ ss) = s.path ∷ paths ss
 
@@ -15,10 +15,10 @@ abbrev pub entry_with : {L : Type 0} → Bool → L → Entry L
 entry_with true l = Joined l
 entry_with false l = Plain l
 
-abbrev pub entry_of : {L : Type 0} → Revision L → Entry L
+abbrev pub entry_of : {L : Type 0} → RevisionRow L → Entry L
 entry_of s = entry_with s.joined s.state
 
-abbrev pub globe : {L : Type 0} → List (Revision L) → PathMap (Entry L)
+abbrev pub globe : {L : Type 0} → List (RevisionRow L) → PathMap (Entry L)
 globe [] p = None
 globe (s ∷ ss) p = with_at (globe ss) s.path (entry_of s) p
 

@@ -2,7 +2,7 @@
 use Rattle.std.specs.Prelude.{List}
 use Rattle.rev_num.specs.Path.{Path}
 use Rattle.revision_machine.specs.Machine.{Global, Twice, Live}
-use Rattle.revision_machine.specs.declared.state.Revision.{Revision}
+use Rattle.revision_machine.specs.declared.state.RevisionRow.{RevisionRow}
 use Rattle.revision_machine.specs.declared.one_step.StepOutcome.{StepOutcome}
 use Rattle.revision_machine.specs.declared.one_step.StepOutcome.TheVariants as outcome
 use Rattle.revision_machine.specs.declared.state.GlobalState.{GlobalState}
@@ -16,7 +16,7 @@ global_of state.Twice = Twice
 global_of (state.Live revisions) = Live (globe revisions.list.items)
 
 -- these revisions, or Twice if that is the answer
-abbrev pub global_after : {L : Type 0} → StepOutcome → List (Revision L) → Global L
+abbrev pub global_after : {L : Type 0} → StepOutcome → List (RevisionRow L) → Global L
 global_after outcome.Twice revisions = Twice
 global_after outcome.Moved revisions = Live (globe revisions)
 global_after (outcome.Waits q) revisions = Live (globe revisions)

@@ -14,7 +14,7 @@ use crate::language::Language;
 use crate::list::step_at;
 use crate::one_step::StepOutcome;
 use crate::place_table::{PlaceTable, places_of};
-use crate::state::{GlobalState, Revision, Revisions};
+use crate::state::{GlobalState, RevisionRow, RevisionRows};
 use rev_num::Path;
 use std::alloc::{AllocError, Global};
 
@@ -38,13 +38,13 @@ pub fn start<L: Language>(
     ensures reached { IfOk result (λ s. IsWithin (L.rules language.now) (global_of s)) }
 {
     let mut list = Vec::new(alloc);
-    list.push(Revision {
+    list.push(RevisionRow {
         path: Path::root(alloc),
         state: main,
         joined: false,
     })?;
     let places = places_of(alloc, list.as_slice())?;
-    Ok(GlobalState::Live(Revisions { list, places }))
+    Ok(GlobalState::Live(RevisionRows { list, places }))
 }
 
 /// Steps the revision at this place. One that moved is to be tried again, and before it a child
@@ -52,7 +52,7 @@ pub fn start<L: Language>(
 fn try_step<L: Language>(
     language: &L,
     alloc: Global,
-    list: &mut Vec<Revision<L::State>>,
+    list: &mut Vec<RevisionRow<L::State>>,
     places: &mut PlaceTable,
     place: usize,
     todo: &mut Vec<usize>,
@@ -99,7 +99,7 @@ fn note(todo: &mut Vec<usize>, place: usize, before: usize, now: usize) -> Resul
 fn run_these<L: Language>(
     language: &L,
     alloc: Global,
-    list: &mut Vec<Revision<L::State>>,
+    list: &mut Vec<RevisionRow<L::State>>,
     places: &mut PlaceTable,
     mut todo: Vec<usize>,
 ) -> Result<Progress, AllocError>
@@ -125,7 +125,7 @@ fn run_these<L: Language>(
 fn run_from<L: Language>(
     language: &L,
     alloc: Global,
-    list: &mut Vec<Revision<L::State>>,
+    list: &mut Vec<RevisionRow<L::State>>,
     places: &mut PlaceTable,
     place: usize,
 ) -> Result<Progress, AllocError>
@@ -150,7 +150,7 @@ fn run_from<L: Language>(
 fn run_each<L: Language>(
     language: &L,
     alloc: Global,
-    list: &mut Vec<Revision<L::State>>,
+    list: &mut Vec<RevisionRow<L::State>>,
     places: &mut PlaceTable,
 ) -> Result<Progress, AllocError>
     requires distinct { IsDistinct (paths list.old.items) }
@@ -196,7 +196,7 @@ pub fn run<L: Language>(
     requires { IsFirst (L.rules language.now) main }
     ensures { IfOk result (λ s. IsEnd (machine_of (L.rules language.now)) main (global_of s)) }
 {
-    let Revisions {
+    let RevisionRows {
         mut list,
         mut places,
     } = match start(language, alloc, main)? {
@@ -206,7 +206,7 @@ pub fn run<L: Language>(
     loop {
         match run_each(language, alloc, &mut list, &mut places)? {
             Progress::Moved => {}
-            Progress::Stuck => return Ok(GlobalState::Live(Revisions { list, places })),
+            Progress::Stuck => return Ok(GlobalState::Live(RevisionRows { list, places })),
             Progress::Twice => return Ok(GlobalState::Twice),
         }
     }

@@ -23,5 +23,5 @@ pub use laws::{
     LawfulMachine, NumberedWorld, Simulated, schedule_theory, simulation_theory, theory,
 };
 pub use one_step::{StepOutcome, step};
-pub use state::{GlobalState, Revision, Revisions};
+pub use state::{GlobalState, RevisionRow, RevisionRows};
 pub use two_orders::{BothOrders, copy_state, diamond_step};

@@ -20,7 +20,7 @@ ghost use Rattle.revision_machine.specs.ListStep.{
 use crate::language::{Language, Next};
 use crate::one_step::StepOutcome;
 use crate::place_table::PlaceTable;
-use crate::state::Revision;
+use crate::state::RevisionRow;
 use rev_num::Path;
 use std::alloc::{AllocError, Global};
 
@@ -28,7 +28,7 @@ use std::alloc::{AllocError, Global};
 pub fn step_at<L: Language>(
     language: &L,
     alloc: Global,
-    list: &mut Vec<Revision<L::State>>,
+    list: &mut Vec<RevisionRow<L::State>>,
     places: &mut PlaceTable,
     i: usize,
 ) -> Result<StepOutcome, AllocError>
@@ -52,7 +52,7 @@ pub fn step_at<L: Language>(
         Next::Forked(state) => {
             let path = revision.path.child(alloc, made)?;
             places.enter(alloc, &path, list.len())?;
-            list.push(Revision {
+            list.push(RevisionRow {
                 path,
                 state,
                 joined: false,
@@ -67,7 +67,7 @@ pub fn step_at<L: Language>(
 fn join_at<L: Language>(
     language: &L,
     alloc: Global,
-    list: &mut Vec<Revision<L::State>>,
+    list: &mut Vec<RevisionRow<L::State>>,
     places: &PlaceTable,
     i: usize,
     on: Path,
@@ -101,7 +101,7 @@ fn join_at<L: Language>(
 fn settle_at<L: Language>(
     language: &L,
     alloc: Global,
-    list: &mut [Revision<L::State>],
+    list: &mut [RevisionRow<L::State>],
     i: usize,
     j: usize,
 ) -> Result<(), AllocError>
@@ -125,8 +125,8 @@ fn settle_at<L: Language>(
 fn settle_pair<L: Language>(
     language: &L,
     alloc: Global,
-    joiner: &mut Revision<L::State>,
-    joinee: &mut Revision<L::State>,
+    joiner: &mut RevisionRow<L::State>,
+    joinee: &mut RevisionRow<L::State>,
 ) -> Result<(), AllocError>
     requires joins { JoinsOther (L.rules language.now) joiner.old joinee.old }
     requires over { (L.rules language.now).next joinee.old.path joinee.old.state ≡ Ended }

@@ -10,7 +10,7 @@ ghost use Rattle.revision_machine.specs.States.{global_of, global_after, Answers
 use crate::language::Language;
 use crate::list::step_at;
 use crate::place_table::PlaceTable;
-use crate::state::{GlobalState, Revision, Revisions};
+use crate::state::{GlobalState, RevisionRow, RevisionRows};
 use rev_num::Path;
 use std::alloc::{AllocError, Global};
 
@@ -42,7 +42,7 @@ pub fn step<L: Language>(
     ensures answers { IfOk result (λ r. Answers (L.rules language.now) path.now state r) }
     ensures reached { IfOk result (λ r. IsWithin (L.rules language.now) (global_of r.0)) }
 {
-    let Revisions {
+    let RevisionRows {
         mut list,
         mut places,
     } = match state {
@@ -52,7 +52,7 @@ pub fn step<L: Language>(
     let i = match places.find(path) {
         Some(i) => i,
         None => return Ok((
-            GlobalState::Live(Revisions { list, places }),
+            GlobalState::Live(RevisionRows { list, places }),
             StepOutcome::NoSuch,
         )),
     };
@@ -61,7 +61,7 @@ pub fn step<L: Language>(
 }
 
 fn state_after<R: Drop>(
-    list: Vec<Revision<R>>,
+    list: Vec<RevisionRow<R>>,
     places: PlaceTable,
     outcome: &StepOutcome,
 ) -> GlobalState<R>
@@ -72,6 +72,6 @@ fn state_after<R: Drop>(
     match outcome {
         StepOutcome::Twice => GlobalState::Twice,
         StepOutcome::Moved | StepOutcome::Waits { .. } | StepOutcome::Ended | StepOutcome::NoSuch =>
-            { GlobalState::Live(Revisions { list, places }) }
+            { GlobalState::Live(RevisionRows { list, places }) }
     }
 }

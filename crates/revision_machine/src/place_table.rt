@@ -4,7 +4,7 @@ ghost use Rattle.std.specs.Prelude.{◌≡◌, [], IfOk, OnOk, OnErr};
 ghost use Rattle.revision_machine.specs.PathIndex.{place_by, IsEntered, IsIndexed};
 ghost use Rattle.revision_machine.specs.RevisionList.{paths};
 
-use crate::state::Revision;
+use crate::state::RevisionRow;
 use rev_num::Path;
 use std::alloc::{AllocError, Global};
 use std::collections::BTreeMap;
@@ -45,7 +45,7 @@ impl PlaceTable {
 }
 
 /// The places of the revisions of this list.
-pub fn places_of<R>(alloc: Global, list: &[Revision<R>]) -> Result<PlaceTable, AllocError>
+pub fn places_of<R>(alloc: Global, list: &[RevisionRow<R>]) -> Result<PlaceTable, AllocError>
     ensures { IfOk result (λ t. IsIndexed t.map (paths list.now)) }
 {
     let mut places = PlaceTable::new(alloc);

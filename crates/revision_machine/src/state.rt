@@ -11,7 +11,7 @@ use rev_num::Path;
 
 /// A revision: its path, its local state, and whether it is marked Joined.
 #[derive(Drop)]
-pub struct Revision<R> {
+pub struct RevisionRow<R> {
     pub path: Path,
     pub state: R,
     pub joined: bool,
@@ -20,14 +20,14 @@ pub struct Revision<R> {
 /// The revisions of a state, in the order of their forks, and the places of their paths. No two
 /// have the same path.
 #[derive(Drop)]
-pub struct Revisions<R> {
-    pub list: Vec<Revision<R>>,
+pub struct RevisionRows<R> {
+    pub list: Vec<RevisionRow<R>>,
     pub(crate) places: PlaceTable,
     ghost distinct: { IsDistinct (paths list.items) } by { distinct_prop (paths list.items) },
     ghost indexed: { IsIndexed places.map (paths list.items) } by { indexed_prop places.map _ },
 }
 
-impl<R> Revisions<R> {
+impl<R> RevisionRows<R> {
     /// The place in the list of the revision with this path, or none where there is no such one.
     pub fn find(&self, path: &Path) -> Option<usize>
         ensures { MatchOption result (globe self.now.list.items path.now ≡ None)
@@ -43,5 +43,5 @@ pub enum GlobalState<R> {
     /// A revision was joined a second time.
     Twice,
     /// These revisions.
-    Live(Revisions<R>),
+    Live(RevisionRows<R>),
 }

@@ -8,7 +8,7 @@ ghost use Rattle.revision_machine.specs.TwoOrders.{IsDiamond, StepsTo, StaysWith
 use crate::language::Language;
 use crate::one_step::{StepOutcome, step};
 use crate::place_table::places_of;
-use crate::state::{GlobalState, Revision, Revisions};
+use crate::state::{GlobalState, RevisionRow, RevisionRows};
 use rev_num::Path;
 use std::alloc::{AllocError, Global};
 
@@ -41,19 +41,19 @@ pub fn copy_state<L: Language>(
     };
     let list = copy_revisions(language, alloc, revisions.list.as_slice())?;
     let places = places_of(alloc, list.as_slice())?;
-    Ok(GlobalState::Live(Revisions { list, places }))
+    Ok(GlobalState::Live(RevisionRows { list, places }))
 }
 
 fn copy_revisions<L: Language>(
     language: &L,
     alloc: Global,
-    revisions: &[Revision<L::State>],
-) -> Result<Vec<Revision<L::State>>, AllocError>
+    revisions: &[RevisionRow<L::State>],
+) -> Result<Vec<RevisionRow<L::State>>, AllocError>
     ensures { IfOk result (λ c. c.items ≡ revisions.now) }
 {
     let mut copy = Vec::new(alloc);
     for revision in revisions {
-        copy.push(Revision {
+        copy.push(RevisionRow {
             path: revision.path.copy(alloc)?,
             state: language.copy(alloc, &revision.state)?,
             joined: revision.joined,

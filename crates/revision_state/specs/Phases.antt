@@ -5,8 +5,8 @@ use Rattle.rev_num.specs.declared.outcome.Trap.{Trap}
 use Rattle.revision_calculus.specs.State as state
 use Rattle.revision_state.specs.declared.phase.Phase as held
 use Rattle.revision_state.specs.declared.phase.Phase.TheVariants.{Running, Joining, Done, Trapped}
-use Rattle.revision_state.specs.declared.phase.Noted as held_noted
-use Rattle.revision_state.specs.declared.phase.Noted.TheVariants.{Forked, Joined}
+use Rattle.revision_state.specs.declared.phase.ForkOrJoin as held_noted
+use Rattle.revision_state.specs.declared.phase.ForkOrJoin.TheVariants.{Forked, Joined}
 
 abbrev pub phase : held.Phase → state.Phase
 phase Running = state.running

@@ -15,6 +15,6 @@ mod tables;
 
 pub use frame::Frame;
 pub use frames::Frames;
-pub use phase::{Noted, Phase, copy_noted};
+pub use phase::{ForkOrJoin, Phase, copy_noted};
 pub use setting::Setting;
 pub use start::start_locations;

@@ -20,7 +20,7 @@ pub enum Phase<'a> {
 
 /// An entry of the list of forks and joins: which revision, and the line of the statement.
 #[derive(Drop)]
-pub enum Noted {
+pub enum ForkOrJoin {
     Forked { path: Path, line: u32 },
     Joined { path: Path, line: u32 },
 }
@@ -82,16 +82,16 @@ impl<'a> Phase<'a> {
     }
 }
 
-impl Noted {
-    fn copy(&self, alloc: Global) -> Result<Noted, AllocError>
+impl ForkOrJoin {
+    fn copy(&self, alloc: Global) -> Result<ForkOrJoin, AllocError>
         ensures { IfOk result (λ n. spec.noted n ≡ spec.noted self.now) }
     {
         match self {
-            Noted::Forked { path, line } => Ok(Noted::Forked {
+            ForkOrJoin::Forked { path, line } => Ok(ForkOrJoin::Forked {
                 path: path.copy(alloc)?,
                 line: *line,
             }),
-            Noted::Joined { path, line } => Ok(Noted::Joined {
+            ForkOrJoin::Joined { path, line } => Ok(ForkOrJoin::Joined {
                 path: path.copy(alloc)?,
                 line: *line,
             }),
@@ -100,7 +100,7 @@ impl Noted {
 }
 
 /// An equal list of forks and joins.
-pub fn copy_noted(alloc: Global, list: &[Noted]) -> Result<Vec<Noted>, AllocError>
+pub fn copy_noted(alloc: Global, list: &[ForkOrJoin]) -> Result<Vec<ForkOrJoin>, AllocError>
     ensures { IfOk result (λ c. map spec.noted c.items ≡ map spec.noted list.now) }
 {
     let mut copy = Vec::with_capacity(alloc, list.len())?;

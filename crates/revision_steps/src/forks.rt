@@ -14,7 +14,7 @@ use crate::own::Own;
 use rev_num::{Path, Value};
 use rev_syntax::{Expr, Name};
 use revision_data::{Text, snapshot};
-use revision_state::{Frames, Noted, Phase, Setting};
+use revision_state::{ForkOrJoin, Frames, Phase, Setting};
 use std::alloc::{AllocError, Global};
 
 impl<'a> Local<'a> {
@@ -64,7 +64,7 @@ impl<'a> Local<'a> {
     {
         let part = self.part(setting);
         let child = path.child(alloc, self.forks)?;
-        self.noted.push(Noted::Forked {
+        self.noted.push(ForkOrJoin::Forked {
             path: child,
             line: self.line,
         })?;

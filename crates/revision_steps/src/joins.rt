@@ -10,8 +10,8 @@ ghost use Rattle.revision_state.specs.Views.{given};
 
 use crate::local::Local;
 use rev_num::{Cause, Path, Trap, Value};
-use revision_data::{Fault, compose, write_all};
-use revision_state::{Noted, Phase, Setting};
+use revision_data::{FaultedMerge, compose, write_all};
+use revision_state::{ForkOrJoin, Phase, Setting};
 use std::alloc::{AllocError, Global};
 
 impl<'a> Local<'a> {
@@ -20,7 +20,7 @@ impl<'a> Local<'a> {
         ensures { OnOk result (self.new ≡ join.note on.now self.old) }
     {
         let path = on.copy(alloc)?;
-        self.noted.push(Noted::Joined {
+        self.noted.push(ForkOrJoin::Joined {
             path,
             line: self.line,
         })?;
@@ -28,7 +28,12 @@ impl<'a> Local<'a> {
     }
 
     /// The joiner traps at its least location whose merge faults.
-    fn fail_merge(&mut self, alloc: Global, path: &Path, fault: Fault) -> Result<(), AllocError>
+    fn fail_merge(
+        &mut self,
+        alloc: Global,
+        path: &Path,
+        fault: FaultedMerge,
+    ) -> Result<(), AllocError>
         ensures { OnOk result
             (self.new
             ≡ record self.old {

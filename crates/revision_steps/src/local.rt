@@ -15,7 +15,7 @@ ghost use Rattle.revision_state.specs.Views.{given};
 use crate::own::Own;
 use rev_num::{Cause, Path, Trap, Value};
 use revision_data::{Location, Text, copy_locations, write_at};
-use revision_state::{Frames, Noted, Phase, Setting, copy_noted, start_locations};
+use revision_state::{ForkOrJoin, Frames, Phase, Setting, copy_noted, start_locations};
 use std::alloc::{AllocError, Global};
 use std::marker::Model;
 
@@ -26,7 +26,7 @@ pub struct Local<'a> {
     pub(crate) frames: Frames<'a>,
     pub(crate) fuel: u64,
     pub(crate) forks: u32,
-    pub(crate) noted: Vec<Noted>,
+    pub(crate) noted: Vec<ForkOrJoin>,
     pub(crate) text: Text,
     pub(crate) line: u32,
     pub(crate) phase: Phase<'a>,
@@ -127,7 +127,7 @@ impl<'a> Local<'a> {
     }
 
     /// The forks and joins of the revision, in their order.
-    pub fn noted(&self) -> &[Noted]
+    pub fn noted(&self) -> &[ForkOrJoin]
         ensures { map phases.noted result.now ≡ self.now.noted }
     {
         self.noted.as_slice()

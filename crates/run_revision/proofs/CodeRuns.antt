@@ -13,7 +13,7 @@ use Rattle.code_machine.specs.Machines.{numbered, start_in}
 use Rattle.run_revision.specs.CodeState.{CodeState, state_of, states, shown_all, shown_some}
 use Rattle.run_revision.specs.CodeValues.{is_end, code_hub}
 use Rattle.run_revision.proofs.Shown.{replays}
-use Rattle.run_revision.proofs.Meeting.{over_is}
+use Rattle.run_revision.proofs.JoinersAndEnds.{over_is}
 use Rattle.run_revision.specs.CodeRuns.{IsLegalOf, RunsAreOfCode}
 
 module _ (g : CodeRun) where

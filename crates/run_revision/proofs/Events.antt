@@ -13,7 +13,7 @@ use Rattle.version_map.specs.declared.end.Finish.{Finish}
 use Rattle.version_map.specs.declared.end.Finish.TheVariants as finish
 use Rattle.hub_core.specs.Hub.{Stands}
 use Rattle.hub_core.specs.HubMachine as hub
-use Rattle.hub_workers.specs.declared.legs.Event.TheVariants as event
+use Rattle.hub_workers.specs.declared.legs.LegEvent.TheVariants as event
 use Rattle.hub_workers.specs.Legs as legs
 use Rattle.code_machine.specs.Local.{CodeRun, Phase, running, done, trapped, at_work, has_ended, End, end_of}
 use Rattle.code_machine.specs.Leg.{leg}
@@ -21,7 +21,7 @@ use Rattle.code_machine.specs.Joining.{inherit, join_in}
 use Rattle.code_machine.specs.Machines.{fork, act_of, wish_of}
 use Rattle.run_revision.specs.CodeState.{CodeState, state_of, told, next}
 use Rattle.run_revision.specs.CodeValues.{JoinerValue, LeftValue, is_trap, is_end, code_hub}
-use Rattle.run_revision.proofs.Meeting.{comes_to_join}
+use Rattle.run_revision.proofs.JoinersAndEnds.{comes_to_join}
 use Rattle.rev_vm.specs.Legs.{trap_of}
 use Rattle.rev_vm.specs.Meaning.{IsEnd}
 use Rattle.rev_vm.specs.States.{end_for, phase_as, is_by_join}

@@ -13,7 +13,7 @@ use Rattle.code_machine.specs.Machines.{act_in, wish_of}
 use Rattle.run_revision.specs.CodeState.{state_of, told, next}
 use Rattle.run_revision.specs.CodeValues.{JoinerValue, LeftValue, is_trap, joined, is_end, code_hub}
 use Rattle.run_revision.specs.Laws.{MeetingFits}
-use Rattle.run_revision.proofs.Meeting.{meetings_fit}
+use Rattle.run_revision.proofs.JoinersAndEnds.{meetings_fit}
 use Rattle.rev_vm.specs.Meaning.{IsEnd, IsPhase}
 use Rattle.rev_vm.specs.States.{end_for, phase_as}
 use Rattle.run_revision.specs.Hands.{HandValue, begins}

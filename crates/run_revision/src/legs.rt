@@ -14,7 +14,7 @@ use crate::joiner::{CodeJoiner, Ended, JoinedBy};
 use crate::left::CodeEnd;
 use crate::machine::CodeRevisions;
 use crate::runner::CodeRunner;
-use hub_workers::{Event, Legs, Settled};
+use hub_workers::{LegEvent, Legs, SettledLeg};
 use leg_run::CodeSetting;
 use rev_vm::{Event as VmEvent, Settled as VmSettled, Stopped, retire, run_leg, settle};
 use std::alloc::{AllocError, Global};
@@ -122,13 +122,13 @@ impl<'a, P: Snapshot, M: MergeBy, K: Keeper<P>> Legs for CodeRevisions<'a, P, M,
     fn run_leg(
         hand: &mut CodeHand<'a, P, M, K>,
         runner: CodeRunner<'a, P>,
-    ) -> Result<Event<CodeFork<'a, P>, CodeJoiner<'a, P>, CodeEnd<'a>>, AllocError> {
+    ) -> Result<LegEvent<CodeFork<'a, P>, CodeJoiner<'a, P>, CodeEnd<'a>>, AllocError> {
         let CodeRunner { setting, runner } = runner;
         match run_leg(hand.alloc, runner, setting, &mut hand.spares) {
-            Ok(VmEvent::Fork(at)) => Ok(Event::Fork(CodeFork { setting, at })),
-            Ok(VmEvent::Join(at)) => Ok(Event::Join(CodeJoiner { setting, at })),
-            Ok(VmEvent::End(stopped)) => Ok(Event::End(leave(hand, setting, stopped)?)),
-            Ok(VmEvent::Trap(stopped)) => Ok(Event::End(leave(hand, setting, stopped)?)),
+            Ok(VmEvent::Fork(at)) => Ok(LegEvent::Fork(CodeFork { setting, at })),
+            Ok(VmEvent::Join(at)) => Ok(LegEvent::Join(CodeJoiner { setting, at })),
+            Ok(VmEvent::End(stopped)) => Ok(LegEvent::End(leave(hand, setting, stopped)?)),
+            Ok(VmEvent::Trap(stopped)) => Ok(LegEvent::End(leave(hand, setting, stopped)?)),
             Err(broken) => {
                 hand.keeper.keep(broken.give_up());
                 Err(AllocError)
@@ -169,14 +169,14 @@ impl<'a, P: Snapshot, M: MergeBy, K: Keeper<P>> Legs for CodeRevisions<'a, P, M,
     fn settle(
         hand: &mut CodeHand<'a, P, M, K>,
         claimed: JoinedBy<'a, P>,
-    ) -> Result<Settled<CodeRunner<'a, P>, CodeEnd<'a>>, AllocError> {
+    ) -> Result<SettledLeg<CodeRunner<'a, P>, CodeEnd<'a>>, AllocError> {
         let JoinedBy { at, end } = claimed;
         let CodeJoiner { setting, at } = at;
         let CodeEnd { setting: _, value } = end;
         let left = Box::into_inner(value);
         match settle(hand.alloc, at.claim(left), &mut hand.merges) {
-            Ok(VmSettled::Run(runner)) => Ok(Settled::Run(CodeRunner { setting, runner })),
-            Ok(VmSettled::Trap(stopped)) => Ok(Settled::Trap(leave(hand, setting, stopped)?)),
+            Ok(VmSettled::Run(runner)) => Ok(SettledLeg::Run(CodeRunner { setting, runner })),
+            Ok(VmSettled::Trap(stopped)) => Ok(SettledLeg::Trap(leave(hand, setting, stopped)?)),
             Err(broken) => {
                 hand.keeper.keep(broken.give_up());
                 Err(AllocError)

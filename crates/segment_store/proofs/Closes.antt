@@ -12,7 +12,7 @@ use native.Mathlib.Decide.{ℕ_discrete}
 use lib.ListN.{get_elem?}
 use Rattle.atomic_table.specs.Table.{State}
 use Rattle.segment_store.specs.Entry.{Entry}
-use Rattle.segment_store.specs.declared.board.View.{View}
+use Rattle.segment_store.specs.declared.board.SegmentView.{SegmentView}
 use Rattle.segment_store.specs.Store.{building, refs_in, refs, builds, held}
 use Rattle.seg_core.specs.Core.{total, is_at}
 use Rattle.segment_store.specs.Store.{IsSegment, Kept}
@@ -38,7 +38,7 @@ is_highest rank zero d h = absurd (omega arith)
 is_highest rank (suc n) d h = dite (ℕ_discrete d n) (λ e. let q : rank d ≡ rank n = ap rank e in
     omega arith) (λ ne. let r = is_highest rank n d (omega arith) in omega arith)
 
-module _ (words stride : ℕ) (s : State (Unit {0}) View) (r : Kept words stride s)
+module _ (words stride : ℕ) (s : State (Unit {0}) SegmentView) (r : Kept words stride s)
     (none_refers : (c : ℕ) → total (refs c) s.views ≡ 0) (none_builds : (c : ℕ) → 0 < c
     → total (builds c) s.views ≡ 0) where
   -- a live segment has a child of a higher rank, and so on
@@ -58,8 +58,8 @@ module _ (words stride : ℕ) (s : State (Unit {0}) View) (r : Kept words stride
       let dead = climbs k d rk.1 (omega arith) in let bare = (r.counted d rk.1).2 (inl dead) in
       let z : c ≡ 0 = some-injective c 0 (sym here ∙ bare) in absurd (omega arith))
 
-pub closes : (words stride : ℕ) (s : State (Unit {0}) View) → Kept words stride s
-    → (id : ℕ) (v : View) → get_elem? s.views id ≡ some v → v.chain ≡ [] → v.build ≡ 0
+pub closes : (words stride : ℕ) (s : State (Unit {0}) SegmentView) → Kept words stride s
+    → (id : ℕ) (v : SegmentView) → get_elem? s.views id ≡ some v → v.chain ≡ [] → v.build ≡ 0
     → total held s.views ≡ held v
     → (c : ℕ) → IsSegment words stride c → get_or s.words c 0 ≡ 0
 closes words stride s r id v at no_chain no_build alone c b = climbs words stride s r
@@ -68,12 +68,12 @@ closes words stride s r id v at no_chain no_build alone c b = climbs words strid
     (λ d dp. total_zero (builds d) s.views (λ j u e. ap (is_at d) (idles j u e).1
     ∙ is_at_other d 0 (λ q. omega arith)))
     (suc (highest r.rank words)) c b (omega arith) where
-      idles : (j : ℕ) (u : View) → get_elem? s.views j ≡ some u → (u.chain ≡ []) × (u.build ≡ 0)
+      idles : (j : ℕ) (u : SegmentView) → get_elem? s.views j ≡ some u → (u.chain ≡ []) × (u.build ≡ 0)
       idles j u e = dite (ℕ_discrete j id)
           (λ is. let same : v ≡ u =
           some-injective v u (sym at ∙ (ap (get_elem? s.views) (sym is) ∙ e)) in (
-            subst (λ (x : View). x.chain ≡ []) same no_chain,
-            subst (λ (x : View). x.build ≡ 0) same no_build,
+            subst (λ (x : SegmentView). x.chain ≡ []) same no_chain,
+            subst (λ (x : SegmentView). x.build ≡ 0) same no_build,
           ))
           (λ ne. (r.seats j u e).idle_is (let t = total_two held s.views id j v u ne at e in
           omega arith))
@@ -107,7 +107,7 @@ found_is (x ∷ xs) (suc i) a d e = found_is xs i a d e
 -- where all views stand for fewer than 2^64 holds, those that were not gathered are counted exactly,
 -- and with none of them no segment has a count
 pub exact : (words stride segments : ℕ) → 1 < stride → words ≡ (segments + 1) * stride
-    → (s : State (Unit {0}) View) → Kept words stride s → (id : ℕ) (v : View)
+    → (s : State (Unit {0}) SegmentView) → Kept words stride s → (id : ℕ) (v : SegmentView)
     → get_elem? s.views id ≡ some v → v.chain ≡ [] → v.build ≡ 0 → v.left ≡ 0
     → (live out : ℕ) → live ≡ live_segments stride s.words segments
     → out ≡ out_of (total held s.views) v.holds → total held s.views < 18446744073709551616
@@ -144,11 +144,11 @@ live_at_most stride ws (suc k) = let r = live_at_most stride ws k in
 
 -- while one seat is the only one, and refers to nothing, no segment is in use
 pub first_free : (words stride masks segments : ℕ) → 1 < stride → words ≡ (segments + 1) * stride
-    → (v : View) → v.chain ≡ [] → v.build ≡ 0 → (s : State (Unit {0}) View)
+    → (v : SegmentView) → v.chain ≡ [] → v.build ≡ 0 → (s : State (Unit {0}) SegmentView)
     → Rule words stride masks s → s.views ≡ v ∷ [] → live_segments stride s.words segments ≡ 0
 first_free words stride masks segments big rooms v no_chain no_build s r only =
-    let at : get_elem? s.views 0 ≡ some v = ap (λ (l : List View). get_elem? l 0) only in
+    let at : get_elem? s.views 0 ≡ some v = ap (λ (l : List SegmentView). get_elem? l 0) only in
     let one : held v + 0 ≡ held v = omega arith in
-    let alone : total held s.views ≡ held v = ap (λ (l : List View). total held l) only ∙ one in
+    let alone : total held s.views ≡ held v = ap (λ (l : List SegmentView). total held l) only ∙ one in
     none_live words stride segments s.words big rooms
     (closes words stride s r.kept 0 v at no_chain no_build alone) segments (omega arith)

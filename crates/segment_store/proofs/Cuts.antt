@@ -7,7 +7,7 @@ use lib.ListN.{get_elem?}
 use Rattle.atomic_table.specs.Table.{State, Splits, Joins}
 use Rattle.atomic_table.proofs.Lists.{at_set, at_snoc}
 use Rattle.segment_store.specs.Entry.{Entry}
-use Rattle.segment_store.specs.declared.board.View.{View}
+use Rattle.segment_store.specs.declared.board.SegmentView.{SegmentView}
 use Rattle.segment_store.specs.Store.{idle}
 use Rattle.seg_core.specs.Core.{total, is_at}
 use Rattle.segment_store.specs.Store.{refs_in, refs, builds, held}
@@ -20,13 +20,13 @@ use Rattle.segment_store.proofs.Frames.{counts_as}
 
 module _ (words stride : ℕ) where
   abbrev St : Type 0
-  St = State (Unit {0}) View
+  St = State (Unit {0}) SegmentView
 
   abbrev Rule : St → Type 0
   Rule = Kept words stride
 
   -- a view is cut in two
-  cut_keeps : (s : St) (r : Rule s) (id : ℕ) (v a b : View) → get_elem? s.views id ≡ some v
+  cut_keeps : (s : St) (r : Rule s) (id : ℕ) (v a b : SegmentView) → get_elem? s.views id ≡ some v
       → ((d : ℕ) → 0 < d → refs d a + refs d b ≡ refs d v) → a.build ≡ v.build → b.build ≡ 0
       → held a + held b ≡ held v
       → Knows words stride s.words r.ups a → Knows words stride s.words r.ups b
@@ -65,7 +65,7 @@ module _ (words stride : ℕ) where
   }
 
   -- the child of a fork has the same chain
-  pub hand_on : (id : ℕ) (v : View) → v.extra ≡ 1 → 0 < v.left → v.build ≡ 0 → 0 < v.holds
+  pub hand_on : (id : ℕ) (v : SegmentView) → v.extra ≡ 1 → 0 < v.left → v.build ≡ 0 → 0 < v.holds
       → Splits Rule id v (hands_left v) (hands_right v)
   hand_on id v two counted_one free holder s r at = let k = r.seats id v at in
       cut_keeps s r id v (hands_left v) (hands_right v) at
@@ -90,7 +90,7 @@ module _ (words stride : ℕ) where
             ≡ cond b (1 + x) 0) [ true ↦ omega arith | false ↦ refl ]
 
   -- the child of a fork has words of its own
-  pub part : (id : ℕ) (v : View) → 0 < v.left → 0 < v.holds
+  pub part : (id : ℕ) (v : SegmentView) → 0 < v.left → 0 < v.holds
       → Splits Rule id v (parts_left v) (idle 1 0)
   part id v counted_one holder s r at = let k = r.seats id v at in
       cut_keeps s r id v (parts_left v) (idle 1 0) at (λ d dp. omega arith) refl refl (omega arith)
@@ -108,7 +108,7 @@ module _ (words stride : ℕ) where
       }
 
   -- a seat with no hold
-  pub witness : (id : ℕ) (v : View) → Splits Rule id v v (idle 0 0)
+  pub witness : (id : ℕ) (v : SegmentView) → Splits Rule id v v (idle 0 0)
   witness id v s r at = let k = r.seats id v at in
       cut_keeps s r id v v (idle 0 0) at (λ d dp. omega arith) refl refl (omega arith) k
       record {
@@ -118,10 +118,10 @@ module _ (words stride : ℕ) where
         idle_is = λ h. (refl, refl);
       }
 
-  pub gather : (id : ℕ) (v : View) (other : ℕ) (w : View) → w.chain ≡ [] → w.build ≡ 0
+  pub gather : (id : ℕ) (v : SegmentView) (other : ℕ) (w : SegmentView) → w.chain ≡ [] → w.build ≡ 0
       → Joins Rule id v other w (gathers v w) (idle 0 0)
-  gather id v other w no_chain no_build s r at apart there = let a : View = gathers v w in
-      let vs : List View = set s.views id a in let k = r.seats id v at in
+  gather id v other w no_chain no_build s r at apart there = let a : SegmentView = gathers v w in
+      let vs : List SegmentView = set s.views id a in let k = r.seats id v at in
       let ne : other ≢ id = apart in record {
         ups = r.ups;
         rank = r.rank;

@@ -7,7 +7,7 @@ use mathlib.Core.Logic.{dite}
 use native.Mathlib.Decide.{ℕ_discrete, dec_le}
 use Rattle.atomic_table.specs.Table.{State}
 use Rattle.segment_store.specs.Entry.{Entry}
-use Rattle.segment_store.specs.declared.board.View.{View}
+use Rattle.segment_store.specs.declared.board.SegmentView.{SegmentView}
 use Rattle.segment_store.specs.Store.{IsSegment, IsEntry, Chain, Kept}
 
 -- 1 where a is below m
@@ -39,7 +39,7 @@ below_one rank m k (suc n) f h lo hi = dite (ℕ_discrete f n)
     omega arith)
     (λ ne. let r = below_one rank m k n f (omega arith) lo hi in omega arith)
 
-module _ (words stride : ℕ) (s : State (Unit {0}) View) (r : Kept words stride s) where
+module _ (words stride : ℕ) (s : State (Unit {0}) SegmentView) (r : Kept words stride s) where
   under_head : (e : Entry) (es : List Entry)
       → Chain words stride (IsEntry words stride s.words r.ups) (e ∷ es)
       → length es ≤ below r.rank (r.rank e.seg) words

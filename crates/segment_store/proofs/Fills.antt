@@ -12,7 +12,7 @@ use Rattle.std.proofs.lemmas.Nat.Bits.{bit_at-zero}
 use Rattle.version_map.specs.Deltas.{at, mask_of}
 use Rattle.version_map.proofs.Bits.{chosen_zero}
 use Rattle.segment_store.specs.Entry.{Put}
-use Rattle.segment_store.specs.declared.board.View.{View}
+use Rattle.segment_store.specs.declared.board.SegmentView.{SegmentView}
 use Rattle.segment_store.specs.Store.{look, puts}
 use Rattle.segment_store.specs.Same.{Becomes}
 use Rattle.segment_store.specs.Base.{filled}
@@ -123,29 +123,29 @@ empty_row d row l zero lo hi =
     ∙ (ap (λ (z : ℕ). bit_at z (l % 64)) zero ∙ bit_at-zero (l % 64)))
 
 -- a part more
-pub fills_more : (s t u : Seat (Unit {0}) View) → Becomes s t (filled s.me.0 t.me.0.made)
+pub fills_more : (s t u : Seat (Unit {0}) SegmentView) → Becomes s t (filled s.me.0 t.me.0.made)
     → Becomes t u (filled t.me.0 u.me.0.made) → Becomes s u (filled s.me.0 u.me.0.made)
 fills_more s t u a b =
-    (b.0 ∙ a.0, b.1 ∙ a.1, b.2 ∙ ap (λ (x : Me (Unit {0}) View). (filled x.0 u.me.0.made, x.1)) a.2)
+    (b.0 ∙ a.0, b.1 ∙ a.1, b.2 ∙ ap (λ (x : Me (Unit {0}) SegmentView). (filled x.0 u.me.0.made, x.1)) a.2)
 
 -- one more word
-pub puts_more : (s t u : Seat (Unit {0}) View) (i w : ℕ) → Becomes s t (filled s.me.0 t.me.0.made)
+pub puts_more : (s t u : Seat (Unit {0}) SegmentView) (i w : ℕ) → Becomes s t (filled s.me.0 t.me.0.made)
     → Becomes t u (puts t.me.0 i w)
     → Becomes s u (filled s.me.0 u.me.0.made)
     × (record { at = i; word = w } ∷ t.me.0.made ≡ u.me.0.made)
 puts_more s t u i w a b = let made : u.me.0.made ≡ record { at = i; word = w } ∷ t.me.0.made =
-    ap (λ (x : Me (Unit {0}) View). x.0.made) b.2 in (
+    ap (λ (x : Me (Unit {0}) SegmentView). x.0.made) b.2 in (
       (
         b.0 ∙ a.0,
         b.1 ∙ a.1,
-        b.2 ∙ (ap (λ (x : Me (Unit {0}) View). (puts x.0 i w, x.1)) a.2
+        b.2 ∙ (ap (λ (x : Me (Unit {0}) SegmentView). (puts x.0 i w, x.1)) a.2
             ∙ ap (λ (ps : List Put). (filled s.me.0 ps, s.me.1)) (sym made)),
       ),
       sym made,
     )
 
 -- one word, as looks at the words that were put tell it
-pub put_look : (s u : Seat (Unit {0}) View) (i w : ℕ) → Becomes s u (puts s.me.0 i w)
+pub put_look : (s u : Seat (Unit {0}) SegmentView) (i w : ℕ) → Becomes s u (puts s.me.0 i w)
     → Becomes s u (filled s.me.0 u.me.0.made) × (look u.me.0.made i ≡ m.some w)
     × ((j : ℕ) → j ≢ i → look u.me.0.made j ≡ look s.me.0.made j)
 put_look s u i w b = let p = puts_more s s u i w (refl, refl, refl) b in (
@@ -156,7 +156,7 @@ put_look s u i w b = let p = puts_more s s u i w (refl, refl, refl) b in (
 )
 
 -- another one in its place
-pub put_again : (s t u : Seat (Unit {0}) View) (i w x : ℕ) → Becomes s t (puts s.me.0 i w)
+pub put_again : (s t u : Seat (Unit {0}) SegmentView) (i w x : ℕ) → Becomes s t (puts s.me.0 i w)
     → Becomes t u (puts t.me.0 i x)
     → Becomes s u (filled s.me.0 u.me.0.made) × (look u.me.0.made i ≡ m.some x)
     × ((j : ℕ) → j ≢ i → look u.me.0.made j ≡ look s.me.0.made j)

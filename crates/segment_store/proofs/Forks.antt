@@ -10,7 +10,7 @@ use Rattle.version_map.specs.declared.delta.Delta.{Delta}
 use Rattle.version_map.specs.Masks.{bit_in}
 use Rattle.version_map.specs.Deltas.{at, mask_of}
 use Rattle.segment_store.specs.Entry.{Put, Entry, Look}
-use Rattle.segment_store.specs.declared.board.View.{View}
+use Rattle.segment_store.specs.declared.board.SegmentView.{SegmentView}
 use Rattle.segment_store.specs.Store.{first_of, look, IsSegment, claims, publishes, counts}
 use Rattle.segment_store.specs.Store.{hands_left, hands_right}
 use Rattle.version_map.specs.Overlay.{word_or, under}
@@ -20,16 +20,16 @@ use Rattle.std.specs.declared.vec.Vec.{Vec}
 use Rattle.std.specs.declared.alloc.Global.{Global}
 use Rattle.segment_store.specs.Own.{root_in, IsOwn, IsComplete}
 use Rattle.segment_store.proofs.Pops.{bare_value, empty}
-use Rattle.segment_store.proofs.Walk.{sound, all_whole}
+use Rattle.segment_store.proofs.ChainWalks.{sound, all_whole}
 
 -- the view after the fork
-abbrev pub forks : View → ℕ → List Put → View
+abbrev pub forks : SegmentView → ℕ → List Put → SegmentView
 forks v segment made = hands_left (counts (publishes (filled (claims v segment) made)))
 
 known : (e : Entry) (i w : ℕ) → look e.body (e.seg + i) ≡ m.some w → Known e i
 known e i w is = is ∙ ap m.some (sym (ap known_or is))
 
-module _ (root : List ℕ) (words stride masks segment first depth : ℕ) (d : Delta) (v : View)
+module _ (root : List ℕ) (words stride masks segment first depth : ℕ) (d : Delta) (v : SegmentView)
     (made : List Put) (h : IsLaid segment first stride masks d made) (rows : (l : ℕ)
     → 2 + masks + l < stride → l / 64 < masks) where
   abbrev e : Entry
@@ -117,8 +117,8 @@ module _ (root : List ℕ) (words stride masks segment first depth : ℕ) (d : D
         base = base_is;
       }
 
-pub unlogged : (root : List ℕ) (words stride masks segment depth : ℕ) (d : Delta) (v : View)
-    (log : List Look) (w child : View)
+pub unlogged : (root : List ℕ) (words stride masks segment depth : ℕ) (d : Delta) (v : SegmentView)
+    (log : List Look) (w child : SegmentView)
     → Forked root words stride masks segment depth d (logged v log) w child
     → Forked root words stride masks segment depth d v w child
 unlogged root words stride masks segment depth d v log w child f =
@@ -130,7 +130,7 @@ unlogged root words stride masks segment depth d v log w child f =
     }
 
 -- the value under words of one's own
-pub own_value : (words stride masks first depth : ℕ) (v : View) (initial ws : Vec ℕ Global)
+pub own_value : (words stride masks first depth : ℕ) (v : SegmentView) (initial ws : Vec ℕ Global)
     (own : Option (Vec ℕ Global)) (l : ℕ) → Rests words stride masks first depth v
     → IsOwn stride masks first own → own ≡ Some ws
     → value masks (root_in initial own) v.chain l ≡ slice_index ws.items l
@@ -139,7 +139,7 @@ own_value words stride masks first depth v initial ws own l r own_is e =
     ∙ ap (λ (o : Option (Vec ℕ Global)). slice_index (root_in initial o) l) e
 
 -- a complete delta hides the root
-pub completes : (words stride masks first depth : ℕ) (v : View) (initial : Vec ℕ Global)
+pub completes : (words stride masks first depth : ℕ) (v : SegmentView) (initial : Vec ℕ Global)
     (own : Option (Vec ℕ Global)) (old new : Delta) (l : ℕ) → Rests words stride masks first depth v
     → IsOwn stride masks first own → IsComplete own old new → 2 + masks + l < stride
     → under new (value masks initial.items v.chain) l ≡ under old
@@ -153,7 +153,7 @@ completes words stride masks first depth v initial (Some ws) old new l r own_is 
     (sym (bare_value ws.items words stride masks first depth v l r o.1))
 
 -- below a chain are the store's words
-pub store_root : (words stride masks first depth : ℕ) (v : View) (initial : Vec ℕ Global)
+pub store_root : (words stride masks first depth : ℕ) (v : SegmentView) (initial : Vec ℕ Global)
     (own : Option (Vec ℕ Global)) → Rests words stride masks first depth v
     → IsOwn stride masks first own → depth ≢ 0 → root_in initial own ≡ initial.items
 store_root words stride masks first depth v initial None r own_is some = refl
@@ -161,7 +161,7 @@ store_root words stride masks first depth v initial (Some ws) r own_is some =
     absurd (some (empty words stride masks first depth v r (own_is ws refl).1))
 
 -- a hold with a chain has no words of its own
-pub own_none : (words stride masks first depth : ℕ) (v : View) (own : Option (Vec ℕ Global))
+pub own_none : (words stride masks first depth : ℕ) (v : SegmentView) (own : Option (Vec ℕ Global))
     → Rests words stride masks first depth v → IsOwn stride masks first own → depth ≢ 0
     → own ≡ None
 own_none words stride masks first depth v None r own_is some = refl

@@ -8,7 +8,7 @@ use lib.ListN.{get_elem?}
 use Rattle.atomic_table.specs.Table.{State}
 use Rattle.atomic_table.proofs.Lists.{at_set}
 use Rattle.segment_store.specs.Entry.{Put, Entry}
-use Rattle.segment_store.specs.declared.board.View.{View}
+use Rattle.segment_store.specs.declared.board.SegmentView.{SegmentView}
 use Rattle.segment_store.specs.Store.{first_of, refs_in, refs, builds, held, Counts}
 use Rattle.seg_core.specs.Core.{total, is_at}
 use Rattle.segment_store.specs.Store.{IsSegment, Shows, IsEntry, Chain, Knows, Kept}
@@ -33,7 +33,7 @@ counts_as c n b c' n' b' up up' p q r t =
 
 module _ (words stride : ℕ) (some_words : 0 < stride) where
   abbrev pub St : Type 0
-  St = State (Unit {0}) View
+  St = State (Unit {0}) SegmentView
 
   -- every word outside the segment c is the same
   abbrev pub Same : List ℕ → List ℕ → ℕ → Type 0
@@ -75,7 +75,7 @@ module _ (words stride : ℕ) (some_words : 0 < stride) where
 
   pub know_else : (ws ws' ups ups' : List ℕ) (c : ℕ) → c % stride ≡ 0 → Same ws ws' c
       → ((d : ℕ) → d ≢ c → get_elem? ups' d ≡ get_elem? ups d)
-      → total (is_at c) ups ≡ 0 → (u : View) → first_of u.chain ≢ c → u.build ≢ c
+      → total (is_at c) ups ≡ 0 → (u : SegmentView) → first_of u.chain ≢ c → u.build ≢ c
       → Knows words stride ws ups u → Knows words stride ws' ups' u
   know_else ws ws' ups ups' c hc same up none_is u n m k = record {
     chained = chain_else ws ws' ups ups' c hc same up none_is u.chain n k.chained;
@@ -105,7 +105,7 @@ module _ (words stride : ℕ) (some_words : 0 < stride) where
   )
 
   -- only the count of c changes
-  pub know_count : (ws ups : List ℕ) (c x : ℕ) → c % stride ≡ 0 → (u : View)
+  pub know_count : (ws ups : List ℕ) (c x : ℕ) → c % stride ≡ 0 → (u : SegmentView)
       → (0 < u.alone → first_of u.chain ≢ c) → (0 < u.build → u.build ≢ c)
       → Knows words stride ws ups u → Knows words stride (set ws c x) ups u
   know_count ws ups c x hc u n m k = record {
@@ -123,7 +123,7 @@ module _ (words stride : ℕ) (some_words : 0 < stride) where
   }
 
   -- a step of one seat on the segment c
-  pub framed : (s : St) (r : Kept words stride s) (id : ℕ) (v w : View)
+  pub framed : (s : St) (r : Kept words stride s) (id : ℕ) (v w : SegmentView)
       → get_elem? s.views id ≡ some v → (ws' ups' : List ℕ) (rank' : ℕ → ℕ) (c : ℕ)
       → length ws' ≡ words → length ups' ≡ words
       → ((d : ℕ) → d ≢ c → IsSegment words stride d
@@ -136,7 +136,7 @@ module _ (words stride : ℕ) (some_words : 0 < stride) where
       → ((d p : ℕ) → get_elem? ups' d ≡ some p → 0 < p → (rank' p < rank' d)
       × IsSegment words stride d)
       → Knows words stride ws' ups' w
-      → ((j : ℕ) (u : View) → j ≢ id → get_elem? s.views j ≡ some u
+      → ((j : ℕ) (u : SegmentView) → j ≢ id → get_elem? s.views j ≡ some u
       → Knows words stride s.words r.ups u → Knows words stride ws' ups' u)
       → get_or ws' 0 0 ≡ total held (set s.views id w) % 18446744073709551616
       → Kept words stride record { words = ws'; homes = s.homes; views = set s.views id w }

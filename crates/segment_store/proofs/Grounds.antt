@@ -12,7 +12,7 @@ use Rattle.version_map.specs.Overlay.{word_or}
 use Rattle.seg_core.specs.Core as c
 use Rattle.seg_core.specs.Core.{total, is_at}
 use Rattle.segment_store.specs.Entry.{Entry}
-use Rattle.segment_store.specs.declared.board.View.{View}
+use Rattle.segment_store.specs.declared.board.SegmentView.{SegmentView}
 use Rattle.segment_store.specs.Store as st
 use Rattle.segment_store.specs.Base.{word_of, bit_of, value, Whole, Sound}
 use Rattle.segment_store.specs.Shown.{worded, Shows}
@@ -20,7 +20,7 @@ use Rattle.seg_core.proofs.Sums.{total_one, is_at_same}
 use Rattle.segment_store.proofs.Ties.{live_at}
 
 module _ (words stride masks : ℕ) (big : 2 + masks ≤ stride) (rows : (l : ℕ)
-    → 2 + masks + l < stride → l / 64 < masks) (s : State (Unit {0}) View)
+    → 2 + masks + l < stride → l / 64 < masks) (s : State (Unit {0}) SegmentView)
     (q : st.Kept words stride s) (k : c.Core) (r : Shows words stride masks s k) (root : List ℕ)
     (l : ℕ) (lt : 2 + masks + l < stride) where
   abbrev bare : ℕ → ℕ

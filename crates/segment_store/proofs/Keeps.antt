@@ -14,7 +14,7 @@ use Rattle.atomic_table.specs.Table.{State, Me, step, keeps, stepped, Allows}
 use Rattle.atomic_table.proofs.Lists.{at_set, set_again, set_here, set_else}
 use Rattle.segment_store.specs.Entry.{Put, Entry}
 use Rattle.segment_store.specs.Act.{Act}
-use Rattle.segment_store.specs.declared.board.View.{View}
+use Rattle.segment_store.specs.declared.board.SegmentView.{SegmentView}
 use Rattle.segment_store.specs.Store.{building, look, first_of, rest_of}
 use Rattle.seg_core.specs.Core.{total, is_at}
 use Rattle.segment_store.specs.Store.{refs_in, refs, builds, held, IsSegment, Shows, IsEntry, Chain}
@@ -31,23 +31,23 @@ use Rattle.segment_store.proofs.Frames.{chain_else, know_else, know_count, frame
 
 module _ (words stride : ℕ) (some_words : 0 < stride) where
   abbrev St : Type 0
-  St = State (Unit {0}) View
+  St = State (Unit {0}) SegmentView
 
   abbrev M : Type 0
-  M = Me (Unit {0}) View
+  M = Me (Unit {0}) SegmentView
 
   abbrev Rule : St → Type 0
   Rule = Kept words stride
 
   -- a load
-  moved : (s : St) (i id : ℕ) (c : List (ℕ × Unit {0})) (w : View)
+  moved : (s : St) (i id : ℕ) (c : List (ℕ × Unit {0})) (w : SegmentView)
       → Rule record { words = s.words; homes = s.homes; views = set s.views id w }
       → Rule (stepped s i (get_or s.words i 0) id c w keeps)
   moved s i id c w h =
       subst (λ ws. Rule record { words = ws; homes = s.homes; views = set s.views id w })
       (sym (set-get_or s.words i 0)) h
 
-  unmoved : (s : St) (r : Rule s) (i id : ℕ) (c : List (ℕ × Unit {0})) (v : View)
+  unmoved : (s : St) (r : Rule s) (i id : ℕ) (c : List (ℕ × Unit {0})) (v : SegmentView)
       → get_elem? s.views id ≡ some v → Rule (stepped s i (get_or s.words i 0) id c v keeps)
   unmoved s r i id c v at =
       moved s i id c v (subst (λ vs. Rule record { words = s.words; homes = s.homes; views = vs })
@@ -67,7 +67,7 @@ module _ (words stride : ℕ) (some_words : 0 < stride) where
     ),
   )
 
-  tally_same : (s : St) (r : Rule s) (id : ℕ) (v w : View) → get_elem? s.views id ≡ some v
+  tally_same : (s : St) (r : Rule s) (id : ℕ) (v w : SegmentView) → get_elem? s.views id ≡ some v
       → (ws' : List ℕ) → get_or ws' 0 0 ≡ get_or s.words 0 0 → held w ≡ held v
       → get_or ws' 0 0 ≡ total held (set s.views id w) % 18446744073709551616
   tally_same s r id v w at ws' same e = let t = total_set held s.views id v w at in
@@ -75,7 +75,7 @@ module _ (words stride : ℕ) (some_words : 0 < stride) where
       same ∙ (r.tally ∙ ap (λ (z : ℕ). z % 18446744073709551616) q)
 
   -- a change of the view alone
-  view_keeps : (s : St) (r : Rule s) (id : ℕ) (v w : View) → get_elem? s.views id ≡ some v
+  view_keeps : (s : St) (r : Rule s) (id : ℕ) (v w : SegmentView) → get_elem? s.views id ≡ some v
       → ((d : ℕ) → refs d w ≡ refs d v) → w.build ≡ v.build → held w ≡ held v
       → Knows words stride s.words r.ups w
       → Rule record { words = s.words; homes = s.homes; views = set s.views id w }
@@ -90,7 +90,7 @@ module _ (words stride : ℕ) (some_words : 0 < stride) where
       (λ b. let pos = b.0 in absurd (omega arith)) r.ranked mine (λ j u ne q ku. ku)
       (tally_same s r id v w at s.words refl same_held)
 
-  note_keeps : (s : St) (r : Rule s) (i id : ℕ) (c : List (ℕ × Unit {0})) (v : View)
+  note_keeps : (s : St) (r : Rule s) (i id : ℕ) (c : List (ℕ × Unit {0})) (v : SegmentView)
       → get_elem? s.views id ≡ some v → (n : ℕ)
       → Rule (stepped s i (get_or s.words i 0) id c (notes v i n) keeps)
   note_keeps s r i id c v at n = let k = r.seats id v at in
@@ -103,19 +103,19 @@ module _ (words stride : ℕ) (some_words : 0 < stride) where
       })
 
   -- a segment that nobody refers to is in no other view
-  untouched : (s : St) (r : Rule s) (c j : ℕ) (u : View) → 0 < c → total (refs c) s.views ≡ 0
+  untouched : (s : St) (r : Rule s) (c j : ℕ) (u : SegmentView) → 0 < c → total (refs c) s.views ≡ 0
       → get_elem? s.views j ≡ some u → first_of u.chain ≢ c
   untouched s r c j u pos none_refs e = let a = total_one (refs c) s.views j u e in
       refs_none c u.extra u.chain pos (omega arith)
 
-  claim_keeps : (s : St) (r : Rule s) (id : ℕ) (v : View) → get_elem? s.views id ≡ some v → (c : ℕ)
+  claim_keeps : (s : St) (r : Rule s) (id : ℕ) (v : SegmentView) → get_elem? s.views id ≡ some v → (c : ℕ)
       → IsSegment words stride c → get_or s.words c 0 ≡ 0 → v.build ≡ 0 → 0 < v.holds
       → Rule record {
         words = set s.words c building;
         homes = s.homes;
         views = set s.views id (claims v c);
       }
-  claim_keeps s r id v at c b empty free holder = let w : View = claims v c in
+  claim_keeps s r id v at c b empty free holder = let w : SegmentView = claims v c in
       let ws' : List ℕ = set s.words c building in let pos : 0 < c = b.0 in
       let long : length s.words ≡ words = r.long in let in_range : c < words = b.2 in
       let k = r.counted c b in let z = k.1 (λ e. omega arith) in let nb = z.2 in
@@ -168,8 +168,8 @@ module _ (words stride : ℕ) (some_words : 0 < stride) where
       → Allows Rule slots id me c (λ x. either (eqb x 0) building x)
       (claimed (step slots c 0 building none) me)
   claim slots id me c b free holder s r _ at small = let x : ℕ = get_or s.words c 0 in
-      let v : View = me.0 in dite (ℕ_discrete x 0)
-      (λ hit. let w : View = claims v c in (
+      let v : SegmentView = me.0 in dite (ℕ_discrete x 0)
+      (λ hit. let w : SegmentView = claims v c in (
         w,
         keeps,
         tt,
@@ -188,7 +188,7 @@ module _ (words stride : ℕ) (some_words : 0 < stride) where
 
   pub find : (slots id : ℕ) (me : M) (c : ℕ)
       → Allows Rule slots id me c (λ x. x) (found (step slots c 0 0 none) me)
-  find slots id me c s r _ at small = let x : ℕ = get_or s.words c 0 in let v : View = me.0 in
+  find slots id me c s r _ at small = let x : ℕ = get_or s.words c 0 in let v : SegmentView = me.0 in
       dite (ℕ_discrete x 0)
       (λ free. (v, keeps, tt, unmoved s r c id me.1 v at, ((λ _. refl), λ busy. absurd (busy free))))
       (λ busy. (
@@ -200,7 +200,7 @@ module _ (words stride : ℕ) (some_words : 0 < stride) where
       ))
 
   -- what a segment that is being built tells
-  built : (s : St) (r : Rule s) (id : ℕ) (v : View) → get_elem? s.views id ≡ some v → 0 < v.build
+  built : (s : St) (r : Rule s) (id : ℕ) (v : SegmentView) → get_elem? s.views id ≡ some v → 0 < v.build
       → (total (refs v.build) s.views ≡ 0) × (total (is_at v.build) r.ups ≡ 0)
       × (total (builds v.build) s.views ≡ 1) × (get_elem? r.ups v.build ≡ some 0)
       × (0 < v.holds)
@@ -215,7 +215,7 @@ module _ (words stride : ℕ) (some_words : 0 < stride) where
       )
 
   -- no other seat builds the segment that this one builds
-  pub other_builds : (s : St) (r : Rule s) (id j : ℕ) (v u : View) → get_elem? s.views id ≡ some v
+  pub other_builds : (s : St) (r : Rule s) (id j : ℕ) (v u : SegmentView) → get_elem? s.views id ≡ some v
       → 0 < v.build → j ≢ id → get_elem? s.views j ≡ some u → u.build ≢ v.build
   other_builds s r id j v u at h ne e q = let t = total_two (builds v.build) s.views id j v u ne at
       e in let o = is_at_same v.build in
@@ -241,8 +241,8 @@ module _ (words stride : ℕ) (some_words : 0 < stride) where
   pub put : (slots id : ℕ) (me : M) (i x : ℕ) → 0 < me.0.build → me.0.build < i
       → i < me.0.build + stride → i < words
       → Allows Rule slots id me i (λ _. x) (λ _. wrote (step slots i x 0 none) me x)
-  put slots id me i x h lo hi inside s r _ at small = let v : View = me.0 in
-      let w : View = puts v i x in let c : ℕ = v.build in let ws' : List ℕ = set s.words i x in
+  put slots id me i x h lo hi inside s r _ at small = let v : SegmentView = me.0 in
+      let w : SegmentView = puts v i x in let c : ℕ = v.build in let ws' : List ℕ = set s.words i x in
       let long : length s.words ≡ words = r.long in
       let mine = r.seats id v at in let own = mine.building_own h in let z = built s r id v at h in
       let hc : c % stride ≡ 0 = own.0.1 in
@@ -329,8 +329,8 @@ module _ (words stride : ℕ) (some_words : 0 < stride) where
       → look me.0.made (me.0.build + 1) ≡ some (first_of me.0.chain)
       → Allows Rule slots id me me.0.build (λ _. 2)
       (λ _. published (step slots me.0.build 2 0 none) me 2)
-  publish_own slots id me h single parent s r _ at small = let v : View = me.0 in
-      let w : View = publishes v in let c : ℕ = v.build in
+  publish_own slots id me h single parent s r _ at small = let v : SegmentView = me.0 in
+      let w : SegmentView = publishes v in let c : ℕ = v.build in
       let f : ℕ = first_of v.chain in
       let ws' : List ℕ = set s.words c 2 in let ups' : List ℕ = set r.ups c f in
       let long : length s.words ≡ words = r.long in let many : length r.ups ≡ words = r.many in
@@ -411,7 +411,7 @@ module _ (words stride : ℕ) (some_words : 0 < stride) where
       (subst (λ (y : ℕ). look me.0.made (y + 1) ≡ some (first_of me.0.chain)) is parent))
 
   -- what the first segment of a chain tells
-  pub referred : (s : St) (r : Rule s) (id : ℕ) (v : View) → get_elem? s.views id ≡ some v
+  pub referred : (s : St) (r : Rule s) (id : ℕ) (v : SegmentView) → get_elem? s.views id ≡ some v
       → 0 < first_of v.chain
       → IsSegment words stride (first_of v.chain) × (0 < get_or s.words (first_of v.chain) 0)
       × (get_or s.words (first_of v.chain) 0 ≡ total (refs (first_of v.chain)) s.views
@@ -432,14 +432,14 @@ module _ (words stride : ℕ) (some_words : 0 < stride) where
         head_segment [] h ch = absurd (omega arith)
         head_segment (e ∷ es) h ch = ch.0.0
 
-  not_built : (s : St) (c j : ℕ) (u : View) → total (builds c) s.views ≡ 0
+  not_built : (s : St) (c j : ℕ) (u : SegmentView) → total (builds c) s.views ≡ 0
       → get_elem? s.views j ≡ some u → u.build ≢ c
   not_built s c j u none_build e q = let o = total_one (builds c) s.views j u e in
       let p : is_at c u.build ≡ 1 = subst (λ (y : ℕ). is_at c y ≡ 1) (sym q) (is_at_same c) in
       omega arith
 
   -- the last reference: the segment is free, and its parent is the first
-  pop_keeps : (s : St) (r : Rule s) (id : ℕ) (v : View) → get_elem? s.views id ≡ some v
+  pop_keeps : (s : St) (r : Rule s) (id : ℕ) (v : SegmentView) → get_elem? s.views id ≡ some v
       → (e : Entry) (es : List Entry) (did : List Act) → v.chain ≡ e ∷ es → v.extra ≡ 0
       → get_or s.words e.seg 0 ≡ 1
       → Rule record {
@@ -448,7 +448,7 @@ module _ (words stride : ℕ) (some_words : 0 < stride) where
         views = set s.views id record v { chain = es; alone = 0; did = did };
       }
   pop_keeps s r id v at e es did is single one = let c : ℕ = e.seg in
-      let w : View = record v { chain = es; alone = 0; did = did } in let mine = r.seats id v at in
+      let w : SegmentView = record v { chain = es; alone = 0; did = did } in let mine = r.seats id v at in
       let ch : Chain words stride (IsEntry words stride s.words r.ups) (e ∷ es) =
       subst (Chain words stride (IsEntry words stride s.words r.ups)) is mine.chained in
       let b = ch.0.0 in let pos : 0 < c = b.0 in
@@ -523,14 +523,14 @@ module _ (words stride : ℕ) (some_words : 0 < stride) where
 
   -- a change of a count that others refer to as well, or that only this view refers to, which stays
   -- up
-  recount_keeps : (s : St) (r : Rule s) (id : ℕ) (v w : View) → get_elem? s.views id ≡ some v
+  recount_keeps : (s : St) (r : Rule s) (id : ℕ) (v w : SegmentView) → get_elem? s.views id ≡ some v
       → (c x : ℕ) → IsSegment words stride c → total (builds c) s.views ≡ 0 → w.build ≡ v.build
       → held w ≡ held v
       → ((d : ℕ) → d ≢ c → refs d w ≡ refs d v) → x + refs c v ≡ get_or s.words c 0 + refs c w
       → 0 < x → x ≤ 4294967296
       → get_or s.words c 0 ≡ total (refs c) s.views + total (is_at c) r.ups
       → Knows words stride (set s.words c x) r.ups w
-      → ((j : ℕ) (u : View) → j ≢ id → get_elem? s.views j ≡ some u → 0 < u.alone
+      → ((j : ℕ) (u : SegmentView) → j ≢ id → get_elem? s.views j ≡ some u → 0 < u.alone
       → first_of u.chain ≢ c)
       → Rule record { words = set s.words c x; homes = s.homes; views = set s.views id w }
   recount_keeps s r id v w at c x b none_build same_build same_held same_refs sum up few n mine
@@ -568,14 +568,14 @@ module _ (words stride : ℕ) (some_words : 0 < stride) where
   release_own : (slots id : ℕ) (me : M) → 0 < first_of me.0.chain → me.0.extra ≡ 0
       → Allows Rule slots id me (first_of me.0.chain) (λ x. (x + (2 ^ 64 - 1)) % 2 ^ 64)
       (released (step slots (first_of me.0.chain) 1 0 none) me)
-  release_own slots id me h single s r _ at small = let v : View = me.0 in
+  release_own slots id me h single s r _ at small = let v : SegmentView = me.0 in
       let c : ℕ = first_of v.chain in let x : ℕ = get_or s.words c 0 in
       let z = referred s r id v at h in let zx = z.1 in let zb = z.3 in let b = z.0 in
       let less : (y : ℕ) → y + 1 ≡ x → y ≡ (x + 18446744073709551615) % 18446744073709551616 =
       λ y e. omega arith in
       dite (ℕ_discrete x 1)
       (λ one. let q = chain_cases v.chain h in let e : Entry = q.0 in let es : List Entry = q.1 in
-      let w : View = pops v in
+      let w : SegmentView = pops v in
       let heads : c ≡ e.seg = ap first_of q.2 in let tail : rest_of v.chain ≡ es = ap rest_of q.2 in
       let done = pop_keeps s r id v at e es (gave_up v.alone c ∷ v.did) q.2 single
       (subst (λ (y : ℕ). get_or s.words y 0 ≡ 1) heads one) in
@@ -604,7 +604,7 @@ module _ (words stride : ℕ) (some_words : 0 < stride) where
         }) (less 0 (omega arith)) done',
         (zx, (λ _. refl), (λ no_one. absurd (no_one one)), λ _. one),
       ))
-      (λ more. let w : View = drops v in let y : ℕ = x - 1 in let hc = b.1 in (
+      (λ more. let w : SegmentView = drops v in let y : ℕ = x - 1 in let hc = b.1 in (
         w,
         keeps,
         tt,
@@ -654,11 +654,11 @@ module _ (words stride : ℕ) (some_words : 0 < stride) where
       → old < 4294967296
       → Allows Rule slots id me (first_of me.0.chain) (λ x. either (eqb x old) (old + 1) x)
       (shared (step slots (first_of me.0.chain) old (old + 1) none) me)
-  share_own slots id me old h single some_old few s r _ at small = let v : View = me.0 in
+  share_own slots id me old h single some_old few s r _ at small = let v : SegmentView = me.0 in
       let c : ℕ = first_of v.chain in let x : ℕ = get_or s.words c 0 in
       let z = referred s r id v at h in let b = z.0 in let hc = b.1 in let mine = r.seats id v at in
       dite (ℕ_discrete x old)
-      (λ hit. let w : View = shares v in (
+      (λ hit. let w : SegmentView = shares v in (
         w,
         keeps,
         tt,
@@ -704,10 +704,10 @@ module _ (words stride : ℕ) (some_words : 0 < stride) where
   see_own : (slots id : ℕ) (me : M) → 0 < first_of me.0.chain
       → Allows Rule slots id me (first_of me.0.chain) (λ x. x)
       (saw (step slots (first_of me.0.chain) 0 0 none) me)
-  see_own slots id me h s r _ at small = let v : View = me.0 in let c : ℕ = first_of v.chain in
+  see_own slots id me h s r _ at small = let v : SegmentView = me.0 in let c : ℕ = first_of v.chain in
       let x : ℕ = get_or s.words c 0 in let z = referred s r id v at h in let zx = z.1 in
       let mine = r.seats id v at in dite (ℕ_discrete x 1)
-      (λ one. let w : View = sees v in (
+      (λ one. let w : SegmentView = sees v in (
         w,
         keeps,
         tt,
@@ -736,11 +736,11 @@ module _ (words stride : ℕ) (some_words : 0 < stride) where
 
   pub tallies : (slots id : ℕ) (me : M) → 0 < words
       → Allows Rule slots id me 0 (λ x. (x + 1) % 2 ^ 64) (tallied (step slots 0 1 0 none) me)
-  tallies slots id me some_words' s r _ at small = let v : View = me.0 in let w : View = counts v in
+  tallies slots id me some_words' s r _ at small = let v : SegmentView = me.0 in let w : SegmentView = counts v in
       let x : ℕ = get_or s.words 0 0 in let y : ℕ = (x + 1) % 18446744073709551616 in
       let long : length s.words ≡ words = r.long in
       let zero_mod : 0 % stride ≡ 0 = zero-mod stride in let mine = r.seats id v at in
-      let know : (u : View) → Knows words stride s.words r.ups u
+      let know : (u : SegmentView) → Knows words stride s.words r.ups u
       → Knows words stride (set s.words 0 y) r.ups u =
       λ u k. know_count words stride some_words s.words r.ups 0 y zero_mod u
       (λ a q. let f = (k.alone_is a).0 in omega arith) (λ a q. omega arith) k in

@@ -5,7 +5,7 @@ pub mod Depths
 pub mod Keeps
 pub mod Cuts
 pub mod Closes
-pub mod Walk
+pub mod ChainWalks
 pub mod Taken
 pub mod Missing
 pub mod Fills

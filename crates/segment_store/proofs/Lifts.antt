@@ -11,7 +11,7 @@ use Rattle.atomic_table.specs.Table.{opening, step, Allows, Splits, Joins}
 use Rattle.atomic_table.proofs.Lists.{at_set, set_else}
 use Rattle.seg_core.specs.Steps as core
 use Rattle.version_map.specs.declared.delta.Delta.{Delta}
-use Rattle.segment_store.specs.declared.board.View.{View}
+use Rattle.segment_store.specs.declared.board.SegmentView.{SegmentView}
 use Rattle.segment_store.specs.Entry.{Entry}
 use Rattle.segment_store.specs.Act as act
 use Rattle.segment_store.specs.Store as st
@@ -30,7 +30,7 @@ use Rattle.segment_store.proofs.Traces.{M, mine, other, still_none, step_traces,
 use Rattle.segment_store.proofs.Traces.{lifts, load_traces}
 use Rattle.seg_core.proofs.Bases.{at_new}
 
-view_is : (a : M) (w : View) (l : List (ℕ × Unit {0})) → a ≡ (w, l) → w ≡ a.0
+view_is : (a : M) (w : SegmentView) (l : List (ℕ × Unit {0})) → a ≡ (w, l) → w ≡ a.0
 view_is a w l e = sym (ap (λ (z : M). z.0) e)
 
 -- a chain that has a first segment
@@ -40,23 +40,23 @@ some_chain [] h = absurd (omega arith)
 some_chain (e ∷ es) h = (e, es, refl)
 
 module _ (words stride masks : ℕ) (some_words : 0 < stride) where
-  abbrev Tr : List ℕ → List View → Type 0
+  abbrev Tr : List ℕ → List SegmentView → Type 0
   Tr = Traced words stride masks
 
   abbrev R : St → Type 0
   R = Rule words stride masks
 
   -- the same word and the same view
-  alike : (ws : List ℕ) (views : List View) (i id n n' : ℕ) (w w' : View) → n ≡ n' → w ≡ w'
+  alike : (ws : List ℕ) (views : List SegmentView) (i id n n' : ℕ) (w w' : SegmentView) → n ≡ n' → w ≡ w'
       → Tr (set ws i n) (set views id w) → Tr (set ws i n') (set views id w')
-  alike ws views i id n n' w w' p q = subst (λ (z : ℕ × View). Tr (set ws i z.0) (set views id z.1))
+  alike ws views i id n n' w w' p q = subst (λ (z : ℕ × SegmentView). Tr (set ws i z.0) (set views id z.1))
       (λ j. (p j, q j))
 
   pub looks : (slots id : ℕ) (me : M) (i : ℕ)
       → Allows R slots id me i (λ n. n) (st.looked (step slots i 0 0 m.none) me)
   looks slots id me i = lifts words stride masks slots id me i (λ n. n)
       (st.looked (step slots i 0 0 m.none) me) (keeps.looks words stride some_words slots id me i)
-      (λ s r at m' t. subst (λ (z : View). Tr (set s.words i (get_or s.words i 0))
+      (λ s r at m' t. subst (λ (z : SegmentView). Tr (set s.words i (get_or s.words i 0))
       (set s.views id z)) (sym (ap (λ (z : M). z.0) t.0))
       (load_traces words stride masks s r i id me.0 me.0 at refl refl refl refl refl))
 
@@ -64,11 +64,11 @@ module _ (words stride masks : ℕ) (some_words : 0 < stride) where
       → Allows R slots id me c (λ x. x) (st.saw (step slots c 0 0 m.none) me)
   see slots id me c pos is = lifts words stride masks slots id me c (λ x. x)
       (st.saw (step slots c 0 0 m.none) me) (keeps.see words stride some_words slots id me c pos is)
-      (λ s r at m' t. let x : ℕ = get_or s.words c 0 in let v : View = me.0 in dite (ℕ_discrete x 1)
-      (λ hit. subst (λ (z : View). Tr (set s.words c x) (set s.views id z))
+      (λ s r at m' t. let x : ℕ = get_or s.words c 0 in let v : SegmentView = me.0 in dite (ℕ_discrete x 1)
+      (λ hit. subst (λ (z : SegmentView). Tr (set s.words c x) (set s.views id z))
       (view_is m' (st.sees v) me.1 (t.1 hit))
       (load_traces words stride masks s r c id v (st.sees v) at refl refl refl refl refl))
-      (λ miss. subst (λ (z : View). Tr (set s.words c x) (set s.views id z))
+      (λ miss. subst (λ (z : SegmentView). Tr (set s.words c x) (set s.views id z))
       (view_is m' (st.notes v c x) me.1 (t.2 miss))
       (load_traces words stride masks s r c id v (st.notes v c x) at refl refl refl refl refl)))
 
@@ -76,11 +76,11 @@ module _ (words stride masks : ℕ) (some_words : 0 < stride) where
       → Allows R slots id me c (λ x. x) (st.found (step slots c 0 0 m.none) me)
   find slots id me c = lifts words stride masks slots id me c (λ x. x)
       (st.found (step slots c 0 0 m.none) me) (keeps.find words stride some_words slots id me c)
-      (λ s r at m' t. let x : ℕ = get_or s.words c 0 in let v : View = me.0 in dite (ℕ_discrete x 0)
-      (λ free. subst (λ (z : View). Tr (set s.words c x) (set s.views id z))
+      (λ s r at m' t. let x : ℕ = get_or s.words c 0 in let v : SegmentView = me.0 in dite (ℕ_discrete x 0)
+      (λ free. subst (λ (z : SegmentView). Tr (set s.words c x) (set s.views id z))
       (sym (ap (λ (z : M). z.0) (t.0 free)))
       (load_traces words stride masks s r c id v v at refl refl refl refl refl))
-      (λ busy. subst (λ (z : View). Tr (set s.words c x) (set s.views id z))
+      (λ busy. subst (λ (z : SegmentView). Tr (set s.words c x) (set s.views id z))
       (view_is m' (st.notes v c x) me.1 (t.1 busy))
       (load_traces words stride masks s r c id v (st.notes v c x) at refl refl refl refl refl)))
 
@@ -91,8 +91,8 @@ module _ (words stride masks : ℕ) (some_words : 0 < stride) where
   claim slots id me c b free holder = lifts words stride masks slots id me c
       (λ x. either (eqb x 0) st.building x) (st.claimed (step slots c 0 st.building m.none) me)
       (keeps.claim words stride some_words slots id me c b free holder)
-      (λ s r at m' t. let x : ℕ = get_or s.words c 0 in let v : View = me.0 in
-      let w : View = st.claims v c in let long = r.kept.long in let b2 = b.2 in
+      (λ s r at m' t. let x : ℕ = get_or s.words c 0 in let v : SegmentView = me.0 in
+      let w : SegmentView = st.claims v c in let long = r.kept.long in let b2 = b.2 in
       dite (ℕ_discrete x 0)
       (λ hit. alike s.words s.views c id st.building (either (eqb x 0) st.building x) w m'.0
       (sym (ap (λ (y : Bool). either y st.building x) (eq-eqb x 0 hit)))
@@ -112,8 +112,8 @@ module _ (words stride masks : ℕ) (some_words : 0 < stride) where
   put slots id me i x h lo hi inside = lifts words stride masks slots id me i (λ _. x)
       (λ _. st.wrote (step slots i x 0 m.none) me x)
       (keeps.put words stride some_words slots id me i x h lo hi inside)
-      (λ s r at m' t. let v : View = me.0 in let j : ℕ = i - v.build in
-      subst (λ (z : View). Tr (set s.words i x) (set s.views id z))
+      (λ s r at m' t. let v : SegmentView = me.0 in let j : ℕ = i - v.build in
+      subst (λ (z : SegmentView). Tr (set s.words i x) (set s.views id z))
       (view_is m' (st.puts v i x) me.1 t)
       (subst (λ (n : ℕ). Tr (set s.words n x) (set s.views id (st.puts v n x))) (omega arith)
       (dite (dec_le (2 + masks) j)
@@ -142,11 +142,11 @@ module _ (words stride masks : ℕ) (some_words : 0 < stride) where
   publish slots id me c pos is single laid = lifts words stride masks slots id me c (λ _. 2)
       (λ _. st.published (step slots c 2 0 m.none) me 2)
       (keeps.publish words stride some_words slots id me c pos is single laid.1.parent_is)
-      (λ s r at m' t. let v : View = me.0 in let w : View = st.publishes v in
+      (λ s r at m' t. let v : SegmentView = me.0 in let w : SegmentView = st.publishes v in
       let h : 0 < v.build = omega arith in
       let made : IsLaid v.build (st.first_of v.chain) stride masks laid.0 v.made =
       subst (λ (z : ℕ). IsLaid z (st.first_of v.chain) stride masks laid.0 v.made) is laid.1 in
-      subst (λ (z : View). Tr (set s.words c 2) (set s.views id z)) (view_is m' w me.1 t.0)
+      subst (λ (z : SegmentView). Tr (set s.words c 2) (set s.views id z)) (view_is m' w me.1 t.0)
       (subst (λ (n : ℕ). Tr (set s.words n 2) (set s.views id w)) (sym is)
       (step_traces words stride masks s r.traced id v w (set s.words v.build 2) at
       (core.publish id v.build) refl (λ g n. n) refl refl
@@ -163,8 +163,8 @@ module _ (words stride masks : ℕ) (some_words : 0 < stride) where
       lifts words stride masks slots id me c (λ x. either (eqb x old) (old + 1) x)
       (st.shared (step slots c old (old + 1) m.none) me)
       (keeps.share words stride some_words slots id me c old pos is single some few)
-      (λ s r at m' t. let x : ℕ = get_or s.words c 0 in let v : View = me.0 in
-      let w : View = st.shares v in let ch = some_chain v.chain (omega arith) in let e = ch.0 in
+      (λ s r at m' t. let x : ℕ = get_or s.words c 0 in let v : SegmentView = me.0 in
+      let w : SegmentView = st.shares v in let ch = some_chain v.chain (omega arith) in let e = ch.0 in
       let first : e.seg ≡ c = sym (is ∙ ap st.first_of ch.2) in
       let counted = counted_first words stride some_words s r.kept id v at e ch.1 ch.2 in
       dite (ℕ_discrete x old)
@@ -195,11 +195,11 @@ module _ (words stride masks : ℕ) (some_words : 0 < stride) where
   release slots id me c pos is single = lifts words stride masks slots id me c
       (λ x. (x + (2 ^ 64 - 1)) % 2 ^ 64) (st.released (step slots c 1 0 m.none) me)
       (keeps.release words stride some_words slots id me c pos is single)
-      (λ s r at m' t. let v : View = me.0 in let ch = some_chain v.chain (omega arith) in
+      (λ s r at m' t. let v : SegmentView = me.0 in let ch = some_chain v.chain (omega arith) in
       let e = ch.0 in let first : e.seg ≡ c = sym (is ∙ ap st.first_of ch.2) in
       let counted = counted_first words stride some_words s r.kept id v at e ch.1 ch.2 in
       let x : ℕ = get_or s.words e.seg 0 in let c1 = counted.1 in let c2 = counted.2 in
-      let there : (w : View) → w ≡ m'.0 → Tr (set s.words e.seg (x - 1)) (set s.views id w)
+      let there : (w : SegmentView) → w ≡ m'.0 → Tr (set s.words e.seg (x - 1)) (set s.views id w)
       → Tr (set s.words c ((get_or s.words c 0 + (2 ^ 64 - 1)) % 2 ^ 64))
       (set s.views id m'.0) = λ w same tr.
       subst (λ (n : ℕ). Tr (set s.words n ((get_or s.words n 0 + (2 ^ 64 - 1)) % 2 ^ 64))
@@ -238,8 +238,8 @@ module _ (words stride masks : ℕ) (some_words : 0 < stride) where
   tallies slots id me some = lifts words stride masks slots id me 0 (λ x. (x + 1) % 2 ^ 64)
       (st.tallied (step slots 0 1 0 m.none) me)
       (keeps.tallies words stride some_words slots id me some)
-      (λ s r at m' t. let v : View = me.0 in let y : ℕ = (get_or s.words 0 0 + 1) % 2 ^ 64 in
-      subst (λ (z : View). Tr (set s.words 0 y) (set s.views id z))
+      (λ s r at m' t. let v : SegmentView = me.0 in let y : ℕ = (get_or s.words 0 0 + 1) % 2 ^ 64 in
+      subst (λ (z : SegmentView). Tr (set s.words 0 y) (set s.views id z))
       (view_is m' (st.counts v) me.1 t)
       (quiet_traces words stride masks s r.traced id v (st.counts v) (set s.words 0 y) at refl refl
       (λ k sh. quiet_ties words stride masks r.fit.0 r.fit.1 s k sh (set s.words 0 y)
@@ -247,33 +247,33 @@ module _ (words stride masks : ℕ) (some_words : 0 < stride) where
       v (st.counts v) at refl refl refl)))
 
   -- what the seats have noted, where a view is cut in two and a new seat has the second part
-  snoc_own : (s : St) (steps : List core.CoreStep) (id : ℕ) (v a b : View)
+  snoc_own : (s : St) (steps : List core.CoreStep) (id : ℕ) (v a b : SegmentView)
       → get_elem? s.views id ≡ m.some v
-      → ((i : ℕ) (u : View) → i ≢ id → get_elem? s.views i ≡ m.some u → 0 < u.holds
+      → ((i : ℕ) (u : SegmentView) → i ≢ id → get_elem? s.views i ≡ m.some u → 0 < u.holds
       → act.acts_of i steps ≡ u.did) → (0 < a.holds → act.acts_of id steps ≡ a.did)
       → act.acts_of (length s.views) steps ≡ b.did
-      → (i : ℕ) (u : View) → get_elem? (set s.views id a ++ b ∷ []) i ≡ m.some u → 0 < u.holds
+      → (i : ℕ) (u : SegmentView) → get_elem? (set s.views id a ++ b ∷ []) i ≡ m.some u → 0 < u.holds
       → act.acts_of i steps ≡ u.did
   snoc_own s steps id v a b at others mine new i u is some =
       let len : length (set s.views id a) ≡ length s.views = length-set s.views id a in ⊎_elim
       (λ (t : get_elem? (set s.views id a) i ≡ m.some u). ⊎_elim
-      (λ (z : (i ≡ id) × (a ≡ u)). subst (λ (y : ℕ × View). act.acts_of y.0 steps ≡ y.1.did)
-      (λ j. (sym z.0 j, z.1 j)) (mine (subst (λ (y : View). 0 < y.holds) (sym z.1) some)))
+      (λ (z : (i ≡ id) × (a ≡ u)). subst (λ (y : ℕ × SegmentView). act.acts_of y.0 steps ≡ y.1.did)
+      (λ j. (sym z.0 j, z.1 j)) (mine (subst (λ (y : SegmentView). 0 < y.holds) (sym z.1) some)))
       (λ (z : (i ≢ id) × (get_elem? s.views i ≡ m.some u)). others i u z.0 z.1 some)
       (at_set s.views id i a u t))
       (λ (t : (i ≡ length (set s.views id a)) × (b ≡ u)).
-      subst (λ (y : ℕ × View). act.acts_of y.0 steps ≡ y.1.did)
+      subst (λ (y : ℕ × SegmentView). act.acts_of y.0 steps ≡ y.1.did)
       (λ j. (sym (t.0 ∙ len) j, t.1 j)) new)
       (new_at (set s.views id a) i b u is)
 
-  snoc_length : (l : List View) (b : View) → length (l ++ b ∷ []) ≡ 1 + length l
+  snoc_length : (l : List SegmentView) (b : SegmentView) → length (l ++ b ∷ []) ≡ 1 + length l
   snoc_length [] b = refl
   snoc_length (x ∷ xs) b = let r = snoc_length xs b in omega arith
 
-  pub hand_on : (id : ℕ) (v : View) → v.extra ≡ 1 → 0 < v.left → v.build ≡ 0 → 0 < v.holds
+  pub hand_on : (id : ℕ) (v : SegmentView) → v.extra ≡ 1 → 0 < v.left → v.build ≡ 0 → 0 < v.holds
       → 0 < st.first_of v.chain → Splits R id v (st.hands_left v) (st.hands_right v)
-  hand_on id v two counted_one free holder some s r at = let a : View = st.hands_left v in
-      let b : View = st.hands_right v in let ch = some_chain v.chain some in let e = ch.0 in
+  hand_on id v two counted_one free holder some s r at = let a : SegmentView = st.hands_left v in
+      let b : SegmentView = st.hands_right v in let ch = some_chain v.chain some in let e = ch.0 in
       let first : st.first_of v.chain ≡ e.seg = ap st.first_of ch.2 in
       let n : ℕ = length s.views in let inside = inside_at s.views id v at in
       let len : length (set s.views id a) ≡ n = length-set s.views id a in
@@ -304,11 +304,11 @@ module _ (words stride masks : ℕ) (some_words : 0 < stride) where
       }
 
   -- a view is cut in two with no step of the core, and the new seat has no reference
-  cut_traces : (id : ℕ) (v a : View) (holds : ℕ) → a.build ≡ v.build → a.made ≡ v.made
+  cut_traces : (id : ℕ) (v a : SegmentView) (holds : ℕ) → a.build ≡ v.build → a.made ≡ v.made
       → list_of a ≡ list_of v → a.did ≡ v.did → 0 < v.holds → (s : St) → R s
       → get_elem? s.views id ≡ m.some v → Tr s.words (set s.views id a ++ st.idle holds 0 ∷ [])
   cut_traces id v a holds same_build same_made same_list same_did holder s r at =
-      let b : View = st.idle holds 0 in
+      let b : SegmentView = st.idle holds 0 in
       let n : ℕ = length s.views in let inside = inside_at s.views id v at in
       let len : length (set s.views id a) ≡ n = length-set s.views id a in
       let len' = snoc_length (set s.views id a) b in let t = r.traced in record {
@@ -324,8 +324,8 @@ module _ (words stride masks : ℕ) (some_words : 0 < stride) where
                 a,
                 old_at (set s.views id a) h a b (ap (get_elem? (set s.views id a)) q
                     ∙ at_new s.views id v a at),
-                same_build ∙ ap (λ (z : View). z.build) vu,
-                same_made ∙ ap (λ (z : View). z.made) vu,
+                same_build ∙ ap (λ (z : SegmentView). z.build) vu,
+                same_made ∙ ap (λ (z : SegmentView). z.made) vu,
               ))
               (λ ne. (
                 u,
@@ -337,12 +337,12 @@ module _ (words stride masks : ℕ) (some_words : 0 < stride) where
               (λ (z : get_elem? (set s.views id a) j ≡ m.some u). ⊎_elim
               (λ (y : (j ≡ id) × (a ≡ u)). ap (get_elem? l.0.lists) y.0
               ∙ (l.2.lists id v at ∙ (ap (λ (xs : List ℕ). m.some xs) (sym same_list)
-              ∙ ap (λ (x : View). m.some (list_of x)) y.1)))
+              ∙ ap (λ (x : SegmentView). m.some (list_of x)) y.1)))
               (λ (y : (j ≢ id) × (get_elem? s.views j ≡ m.some u)). l.2.lists j u y.1)
               (at_set s.views id j a u z))
               (λ (z : (j ≡ length (set s.views id a)) × (b ≡ u)). ap (get_elem? l.0.lists)
               (z.0 ∙ len) ∙ (l.3 n (omega arith) (omega arith)
-              ∙ ap (λ (x : View). m.some (list_of x)) z.1))
+              ∙ ap (λ (x : SegmentView). m.some (list_of x)) z.1))
               (new_at (set s.views id a) j b u iu))
               refl refl,
           λ h past below. l.3 h (omega arith) below,
@@ -352,7 +352,7 @@ module _ (words stride masks : ℕ) (some_words : 0 < stride) where
         fresh = λ i past. t.fresh i (omega arith);
       }
 
-  pub part : (id : ℕ) (v : View) → 0 < v.left → 0 < v.holds
+  pub part : (id : ℕ) (v : SegmentView) → 0 < v.left → 0 < v.holds
       → Splits R id v (st.parts_left v) (st.idle 1 0)
   part id v counted_one holder s r at = record {
     kept = cuts.part words stride id v counted_one holder s r.kept at;
@@ -360,17 +360,17 @@ module _ (words stride masks : ℕ) (some_words : 0 < stride) where
     traced = cut_traces id v (st.parts_left v) 1 refl refl refl refl holder s r at;
   }
 
-  pub witness : (id : ℕ) (v : View) → 0 < v.holds → Splits R id v v (st.idle 0 0)
+  pub witness : (id : ℕ) (v : SegmentView) → 0 < v.holds → Splits R id v v (st.idle 0 0)
   witness id v holder s r at = record {
     kept = cuts.witness words stride id v s r.kept at;
     fit = r.fit;
     traced = cut_traces id v v 0 refl refl refl refl holder s r at;
   }
 
-  pub gather : (id : ℕ) (v : View) (other_id : ℕ) (w : View) → w.chain ≡ [] → w.build ≡ 0
+  pub gather : (id : ℕ) (v : SegmentView) (other_id : ℕ) (w : SegmentView) → w.chain ≡ [] → w.build ≡ 0
       → 0 < v.holds → Joins R id v other_id w (st.gathers v w) (st.idle 0 0)
-  gather id v o w no_chain no_build holder s r at apart there = let a : View = st.gathers v w in
-      let b : View = st.idle 0 0 in let vs : List View = set s.views id a in
+  gather id v o w no_chain no_build holder s r at apart there = let a : SegmentView = st.gathers v w in
+      let b : SegmentView = st.idle 0 0 in let vs : List SegmentView = set s.views id a in
       let was : get_elem? s.views o ≡ m.some w = sym (set_else s.views id o a apart) ∙ there in
       let len : length vs ≡ length s.views = length-set s.views id a in
       let len' : length (set vs o b) ≡ length vs = length-set vs o b in let t = r.traced in
@@ -391,23 +391,23 @@ module _ (words stride masks : ℕ) (some_words : 0 < stride) where
                 ∙ (ap (get_elem? s.views) (sym q) ∙ iu)) in (
                   a,
                   ap (get_elem? (set vs o b)) q ∙ at_a,
-                  ap (λ (z : View). z.build) vu,
-                  ap (λ (z : View). z.made) vu,
+                  ap (λ (z : SegmentView). z.build) vu,
+                  ap (λ (z : SegmentView). z.made) vu,
                 ))
                 (λ ne. dite (ℕ_discrete h o)
                 (λ q. let wu : w ≡ u = m.some-injective w u (sym was
                 ∙ (ap (get_elem? s.views) (sym q) ∙ iu)) in
-                let z : u.build ≡ 0 = ap (λ (z : View). z.build) (sym wu) ∙ no_build in
+                let z : u.build ≡ 0 = ap (λ (z : SegmentView). z.build) (sym wu) ∙ no_build in
                 absurd (omega arith))
                 (λ no. (u, set_else vs o h b no ∙ (set_else s.views id h a ne ∙ iu), refl, refl))))
                 (λ j u iu. ⊎_elim
                 (λ (z : (j ≡ o) × (b ≡ u)). ap (get_elem? l.0.lists) z.0
                 ∙ (l.2.lists o w was
                 ∙ (ap (λ (xs : List Entry). m.some (list_in xs w.extra)) no_chain
-                ∙ ap (λ (x : View). m.some (list_of x)) z.1)))
+                ∙ ap (λ (x : SegmentView). m.some (list_of x)) z.1)))
                 (λ (z : (j ≢ o) × (get_elem? vs j ≡ m.some u)). ⊎_elim
                 (λ (y : (j ≡ id) × (a ≡ u)). ap (get_elem? l.0.lists) y.0
-                ∙ (l.2.lists id v at ∙ ap (λ (x : View). m.some (list_of x)) y.1))
+                ∙ (l.2.lists id v at ∙ ap (λ (x : SegmentView). m.some (list_of x)) y.1))
                 (λ (y : (j ≢ id) × (get_elem? s.views j ≡ m.some u)). l.2.lists j u y.1)
                 (at_set s.views id j a u z.1))
                 (at_set vs o j b u iu))
@@ -415,11 +415,11 @@ module _ (words stride masks : ℕ) (some_words : 0 < stride) where
             λ h past below. l.3 h (omega arith) below,
           );
           own = λ i u is some. ⊎_elim
-              (λ (z : (i ≡ o) × (b ≡ u)). let none : 0 ≡ u.holds = ap (λ (x : View). x.holds) z.1 in
+              (λ (z : (i ≡ o) × (b ≡ u)). let none : 0 ≡ u.holds = ap (λ (x : SegmentView). x.holds) z.1 in
               absurd (omega arith))
               (λ (z : (i ≢ o) × (get_elem? vs i ≡ m.some u)). ⊎_elim
               (λ (y : (i ≡ id) × (a ≡ u)). subst (λ (x : ℕ). act.acts_of x t.steps ≡ u.did)
-              (sym y.0) (t.own id v at holder ∙ ap (λ (x : View). x.did) y.1))
+              (sym y.0) (t.own id v at holder ∙ ap (λ (x : SegmentView). x.did) y.1))
               (λ (y : (i ≢ id) × (get_elem? s.views i ≡ m.some u)). t.own i u y.1 some)
               (at_set s.views id i a u z.1))
               (at_set vs o i b u is);
@@ -441,7 +441,7 @@ module _ (words stride masks : ℕ) (some_words : 0 < stride) where
         opens_show words stride masks holders ws fit.0 (omega arith) rest,
         λ h past below. none_listed_at holders h below,
       );
-      own = λ i v is some. ap (λ (x : View). x.did) (one_view (st.idle 1 0) v i is);
+      own = λ i v is some. ap (λ (x : SegmentView). x.did) (one_view (st.idle 1 0) v i is);
       fresh = λ i past. refl;
     };
   }

@@ -17,7 +17,7 @@ use Rattle.version_map.specs.Deltas.{at, locations, mask_of}
 use Rattle.version_map.specs.Masks.{bit_in}
 use Rattle.version_map.proofs.Bits.{chosen_zero, not_chosen}
 use Rattle.version_map.proofs.Nexts.{bit_in_row}
-use Rattle.segment_store.specs.declared.board.View.{View}
+use Rattle.segment_store.specs.declared.board.SegmentView.{SegmentView}
 use Rattle.segment_store.specs.Base.{absorbed, IsTaken}
 use Rattle.segment_store.specs.Same.{IsWord}
 use Rattle.segment_store.proofs.Taken.{taken_none, taken_some}
@@ -67,7 +67,7 @@ not_both a b c is none unset set = omega arith
 one_alone : (a b c : ℕ) → c ≡ min a (1 - b) → c ≡ 1 → a < 2 → b < 2 → (a ≡ 1) × (b ≡ 0)
 one_alone a b c is one p q = (omega arith, omega arith)
 
-module _ (words stride masks segment row bits mask : ℕ) (s : Seat (Unit {0}) View) (d : Delta)
+module _ (words stride masks segment row bits mask : ℕ) (s : Seat (Unit {0}) SegmentView) (d : Delta)
     (fits : mask < 2 ^ 64) (is : mask ≡ slice_index (mask_of d) row) (low : row < masks)
     (word : IsWord s (segment + (2 + row)) bits) where
   -- the bit of a location of the row in the delta's mask
@@ -110,7 +110,7 @@ module _ (words stride masks segment row bits mask : ℕ) (s : Seat (Unit {0}) V
       subst (λ (l : ℕ). taken l (at d l) (at d l)) here
       (skipped k (omega (arith, lo, hi, few)) (none k (omega (arith, lo)) (omega (arith, lo, hi)))))
 
-  pub took : (k y : ℕ) (t : Seat (Unit {0}) View) → k < 64 → bit_at (bit_and bits (bit_not w64 mask)) k ≡ 1
+  pub took : (k y : ℕ) (t : Seat (Unit {0}) SegmentView) → k < 64 → bit_at (bit_and bits (bit_not w64 mask)) k ≡ 1
       → t.me ≡ s.me → IsWord t (segment + (2 + masks + (64 * row + k))) y → 2 + masks + (64 * row + k) < stride
       → IsTaken words stride masks segment (64 * row + k) s.me.0.chain (at d (64 * row + k)) (Some y)
   took k y t lt one same there inside e has seg whole =

@@ -7,7 +7,7 @@ use Rattle.std.proofs.lemmas.List.{length-replicate, get_or-replicate}
 use mathlib.Core.Option.{some, some-injective, some-ne-none}
 use lib.ListN.{get_elem?}
 use Rattle.atomic_table.specs.Table.{opening}
-use Rattle.segment_store.specs.declared.board.View.{View}
+use Rattle.segment_store.specs.declared.board.SegmentView.{SegmentView}
 use Rattle.segment_store.specs.Store.{idle, Knows, Kept}
 use Rattle.seg_core.specs.Core.{total, is_at}
 use Rattle.seg_core.proofs.Sums.{is_at_other}
@@ -41,7 +41,7 @@ blank_only zero i p e = absurd (some-ne-none p (sym e))
 blank_only (suc n) zero p e = some-injective 0 p e
 blank_only (suc n) (suc i) p e = blank_only n i p e
 
-pub one_view : (v w : View) (i : ℕ) → get_elem? (v ∷ []) i ≡ some w → v ≡ w
+pub one_view : (v w : SegmentView) (i : ℕ) → get_elem? (v ∷ []) i ≡ some w → v ≡ w
 one_view v w zero e = some-injective v w e
 one_view v w (suc i) e = absurd (some-ne-none w (sym e))
 

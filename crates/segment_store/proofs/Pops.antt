@@ -5,17 +5,17 @@ use Rattle.version_map.specs.declared.delta.Delta.{Delta}
 use Rattle.version_map.specs.Deltas.{at}
 use Rattle.version_map.specs.Overlay.{under}
 use Rattle.segment_store.specs.Entry.{Entry}
-use Rattle.segment_store.specs.declared.board.View.{View}
+use Rattle.segment_store.specs.declared.board.SegmentView.{SegmentView}
 use Rattle.segment_store.specs.Store.{first_of, rest_of, pops, sees, Has}
 use Rattle.segment_store.specs.Base.{word_of, value, Whole, Sound, Rests, IsTaken, Popped}
-use Rattle.segment_store.proofs.Walk.{Top, top_of, sound, all_whole, bare_rest}
+use Rattle.segment_store.proofs.ChainWalks.{Top, top_of, sound, all_whole, bare_rest}
 use Rattle.segment_store.proofs.Taken.{took_head}
 
 some_entry : (es : List Entry) → 0 < first_of es → 0 < length es
 some_entry [] h = h
 some_entry (e ∷ es) h = omega arith
 
-pub top : (words stride masks first depth : ℕ) (v : View) → Rests words stride masks first depth v
+pub top : (words stride masks first depth : ℕ) (v : SegmentView) → Rests words stride masks first depth v
     → 0 < first → Top words stride masks first v.chain
 top words stride masks first depth v r h = let head = r.head in
     let some = some_entry v.chain (omega arith) in
@@ -26,20 +26,20 @@ empty_at : (words stride masks : ℕ) (chain : List Entry) → Sound words strid
 empty_at words stride masks [] s e = refl
 empty_at words stride masks (x ∷ xs) s e = let p = s.0.segment.0 in absurd (omega arith)
 
-pub empty : (words stride masks first depth : ℕ) (v : View) → Rests words stride masks first depth v
+pub empty : (words stride masks first depth : ℕ) (v : SegmentView) → Rests words stride masks first depth v
     → first ≡ 0 → depth ≡ 0
 empty words stride masks first depth v r e = r.deep
     ∙ empty_at words stride masks v.chain (sound words stride masks v.chain r.whole)
     (sym r.head ∙ e)
 
 -- where there is no first segment, the value is the root's
-pub bare_value : (root : List ℕ) (words stride masks first depth : ℕ) (v : View) (l : ℕ)
+pub bare_value : (root : List ℕ) (words stride masks first depth : ℕ) (v : SegmentView) (l : ℕ)
     → Rests words stride masks first depth v → first ≡ 0
     → value masks root v.chain l ≡ slice_index root l
 bare_value root words stride masks first depth v l r e = bare_rest masks root v.chain l
     (sym r.deep ∙ empty words stride masks first depth v r e)
 
-pub popped : (root : List ℕ) (words stride masks first up depth : ℕ) (old new : Delta) (v : View)
+pub popped : (root : List ℕ) (words stride masks first up depth : ℕ) (old new : Delta) (v : SegmentView)
     (r : Rests words stride masks first depth v) (h : 0 < first)
     → ((e : Entry) (more : List Entry) → v.chain ≡ e ∷ more → first ≡ e.seg
     → Whole words stride masks e → up ≡ word_of e 1)

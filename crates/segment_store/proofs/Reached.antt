@@ -7,7 +7,7 @@ use native.Mathlib.Decide.{ℕ_discrete}
 use lib.ListN.{get_elem?}
 use Rattle.atomic_table.specs.Table.{State}
 use Rattle.segment_store.specs.Entry.{Entry}
-use Rattle.segment_store.specs.declared.board.View.{View}
+use Rattle.segment_store.specs.declared.board.SegmentView.{SegmentView}
 use Rattle.segment_store.specs.Store.{building, first_of, refs, IsSegment, IsEntry}
 use Rattle.seg_core.specs.Core.{total, is_at}
 use Rattle.segment_store.specs.Store.{Chain, Has, Kept}
@@ -15,9 +15,9 @@ use Rattle.segment_store.proofs.Sums.{refs_not, chain_has}
 use Rattle.seg_core.proofs.Sums.{is_at_other}
 use Rattle.segment_store.proofs.Closes.{total_some, highest, is_highest}
 
-pub record InChain (s : State (Unit {0}) View) (c : ℕ) : Type 0 where
+pub record InChain (s : State (Unit {0}) SegmentView) (c : ℕ) : Type 0 where
   pub seat : ℕ
-  pub view : View
+  pub view : SegmentView
   pub at : get_elem? s.views seat ≡ some view
   pub e : Entry
   pub has : Has e view.chain
@@ -36,7 +36,7 @@ module _ (words stride : ℕ) where
       let t = head_has xs (omega arith) in (t.0, inr t.1, t.2 ∙ sym up))
       (λ q. let t = next_has B xs e ch.2 q h in (t.0, inr t.1, t.2)) at
 
-  module _ (s : State (Unit {0}) View) (r : Kept words stride s) where
+  module _ (s : State (Unit {0}) SegmentView) (r : Kept words stride s) where
     reach : (k c : ℕ) → IsSegment words stride c → highest r.rank words < r.rank c + k
         → get_or s.words c 0 ≢ 0 → get_or s.words c 0 ≢ building → InChain s c
     reach zero c b far live done = let i = b.2 in let h = is_highest r.rank words c i in
@@ -61,7 +61,7 @@ module _ (words stride : ℕ) where
         let x = next_has (IsEntry words stride s.words r.ups) p.view.chain p.e ch p.has
         (omega arith) in
         record { seat = p.seat; view = p.view; at = p.at; e = x.0; has = x.1; seg = x.2 ∙ e_up })
-        (λ held. let t = total_some (refs c) s.views (omega arith) in let v : View = t.1 in
+        (λ held. let t = total_some (refs c) s.views (omega arith) in let v : SegmentView = t.1 in
         let above = t.3 in
         let first : first_of v.chain ≡ c = dite (ℕ_discrete (first_of v.chain) c) (λ e. e)
         (λ other. let z = refs_not c v.extra v.chain other in absurd (omega arith)) in

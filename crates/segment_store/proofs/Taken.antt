@@ -11,12 +11,12 @@ use Rattle.version_map.specs.declared.delta.Delta.{Delta}
 use Rattle.version_map.specs.Deltas.{at}
 use Rattle.version_map.specs.Overlay.{word_or, under}
 use Rattle.segment_store.specs.Entry.{Entry}
-use Rattle.segment_store.specs.declared.board.View.{View}
+use Rattle.segment_store.specs.declared.board.SegmentView.{SegmentView}
 use Rattle.segment_store.specs.Store.{first_of, Has}
 use Rattle.segment_store.specs.Same.{IsWord}
 use Rattle.segment_store.specs.Base.{word_of, bit_of, value, Whole, Sound, absorbed, IsTaken}
-use Rattle.segment_store.proofs.Walk.{Tail, TopOf, entire, top_part, lower, bare_rest, chain_of}
-use Rattle.segment_store.proofs.Walk.{segment_word, bit_read}
+use Rattle.segment_store.proofs.ChainWalks.{Tail, TopOf, entire, top_part, lower, bare_rest, chain_of}
+use Rattle.segment_store.proofs.ChainWalks.{segment_word, bit_read}
 
 joined : (b : Bool) (x base : ℕ) → word_or base (cond b (Some x) None) ≡ cond b x base
 joined true x base = refl
@@ -36,7 +36,7 @@ took_head masks root e more old new l took =
     ap (word_or (value masks root more l)) took ∙ over masks root e more (at old l) l
 
 -- a segment with no value for the location
-pub taken_none : (words stride masks segment l x : ℕ) (s : Seat (Unit {0}) View) (e : Entry)
+pub taken_none : (words stride masks segment l x : ℕ) (s : Seat (Unit {0}) SegmentView) (e : Entry)
     → Has e s.me.0.chain → segment ≡ e.seg → Whole words stride masks e
     → IsWord s (segment + (2 + l / 64)) x → l / 64 < masks → bit_at x (l % 64) ≢ 1
     → None ≡ absorbed masks e None l
@@ -45,7 +45,7 @@ taken_none words stride masks segment l x s e has seg whole word low ne =
     sym (ap (λ (b : Bool). cond b (Some (word_of e (2 + masks + l))) None)
     (ne_eqb (bit_of e l) 1 (λ q. ne (bit ∙ q))))
 
-pub taken_some : (words stride masks segment l x y : ℕ) (s t : Seat (Unit {0}) View) (e : Entry)
+pub taken_some : (words stride masks segment l x y : ℕ) (s t : Seat (Unit {0}) SegmentView) (e : Entry)
     → Has e s.me.0.chain → t.me ≡ s.me → segment ≡ e.seg → Whole words stride masks e
     → IsWord s (segment + (2 + l / 64)) x → IsWord t (segment + (2 + masks + l)) y → l / 64 < masks
     → 2 + masks + l < stride → bit_at x (l % 64) ≡ 1

@@ -4,7 +4,7 @@ use Rattle.atomic_table.specs.Table.{Me}
 use Rattle.version_map.specs.declared.snapshot.Collapsed.{Collapsed}
 use Rattle.version_map.specs.declared.snapshot.Collapsed.TheVariants as collapsed
 use Rattle.segment_store.specs.Entry.{Look}
-use Rattle.segment_store.specs.declared.board.View.{View}
+use Rattle.segment_store.specs.declared.board.SegmentView.{SegmentView}
 use Rattle.segment_store.specs.declared.store.Hold.{Hold}
 use Rattle.segment_store.specs.Store.{first_of, notes, pops, sees}
 use Rattle.segment_store.specs.Names.{IsSameHold, Told}
@@ -16,12 +16,12 @@ looked_at c n before = record { segment = c; count = n } ∷ before
 pub still_told : (h k : Hold) → k.seat.me ≡ h.seat.me → k.first ≡ h.first → k.depth ≡ h.depth
     → (c : Collapsed) → Told h c → Told k c
 still_told h k me first depth collapsed.Took t =
-    (t.0, t.1, ap (λ (m : Me (Unit {0}) View). m.0.did) me ∙ t.2)
+    (t.0, t.1, ap (λ (m : Me (Unit {0}) SegmentView). m.0.did) me ∙ t.2)
 still_told h k me first depth (collapsed.Kept n) t = (
   t.0,
   (
     t.1.0,
-    ap (λ (m : Me (Unit {0}) View). m.0.log) me ∙ t.1.1
+    ap (λ (m : Me (Unit {0}) SegmentView). m.0.log) me ∙ t.1.1
         ∙ ap (λ (c : ℕ). looked_at c n t.1.0) (sym first),
   ),
 )
@@ -33,13 +33,13 @@ kept_told h k n more is first = (
   more,
   (
     h.seat.me.0.log,
-    ap (λ (v : View). v.log) is
+    ap (λ (v : SegmentView). v.log) is
         ∙ ap (λ (c : ℕ). looked_at c n h.seat.me.0.log) (sym first),
   ),
 )
 
 pub took_told : (h k : Hold) → k.seat.me.0 ≡ pops (sees h.seat.me.0) → Told k collapsed.Took
-took_told h k is = (first_of h.seat.me.0.chain, h.seat.me.0.did, ap (λ (v : View). v.did) is)
+took_told h k is = (first_of h.seat.me.0.chain, h.seat.me.0.did, ap (λ (v : SegmentView). v.did) is)
 
 -- holds with one chain have one depth
 pub same_depth : (h k : Hold) → IsSameHold h k → k.depth ≡ h.depth

@@ -18,7 +18,7 @@ use Rattle.seg_core.specs.Applies.{copies}
 use Rattle.seg_core.specs.Core.{Seg, free, building, live, Core, At, Has}
 use Rattle.seg_core.specs.Steps as core
 use Rattle.segment_store.specs.Entry.{Put, Entry}
-use Rattle.segment_store.specs.declared.board.View.{View}
+use Rattle.segment_store.specs.declared.board.SegmentView.{SegmentView}
 use Rattle.segment_store.specs.Store as st
 use Rattle.segment_store.specs.Shown.{list_in, list_of, std_option, put_at, worded}
 use Rattle.segment_store.specs.Shown.{SegShown, Shown, Shows}
@@ -33,26 +33,26 @@ inside_at [] i x e = absurd (m.some-ne-none x (sym e))
 inside_at (y ∷ ys) zero x e = omega arith
 inside_at (y ∷ ys) (suc i) x e = let r = inside_at ys i x e in omega arith
 
-pub old_at : (l : List View) (h : ℕ) (v b : View) → get_elem? l h ≡ m.some v
+pub old_at : (l : List SegmentView) (h : ℕ) (v b : SegmentView) → get_elem? l h ≡ m.some v
     → get_elem? (l ++ b ∷ []) h ≡ m.some v
 old_at [] h v b e = absurd (m.some-ne-none v (sym e))
 old_at (x ∷ xs) zero v b e = e
 old_at (x ∷ xs) (suc h) v b e = old_at xs h v b e
 
-pub new_at : (l : List View) (j : ℕ) (b u : View) → get_elem? (l ++ b ∷ []) j ≡ m.some u
+pub new_at : (l : List SegmentView) (j : ℕ) (b u : SegmentView) → get_elem? (l ++ b ∷ []) j ≡ m.some u
     → (get_elem? l j ≡ m.some u) ⊎ ((j ≡ length l) × (b ≡ u))
 new_at [] zero b u e = inr (refl, m.some-injective b u e)
 new_at [] (suc j) b u e = absurd (m.some-ne-none u (sym e))
 new_at (x ∷ xs) zero b u e = inl e
 new_at (x ∷ xs) (suc j) b u e = ⊎_elim (λ t. inl t) (λ t. inr (ap suc t.0, t.1)) (new_at xs j b u e)
 
-pub none_past : (l : List View) (v : View) → get_elem? l (length l) ≡ m.some v → ⊥
+pub none_past : (l : List SegmentView) (v : SegmentView) → get_elem? l (length l) ≡ m.some v → ⊥
 none_past [] v e = m.some-ne-none v (sym e)
 none_past (x ∷ xs) v e = none_past xs v e
 
 module _ (words stride masks : ℕ) where
   abbrev St : Type 0
-  St = State (Unit {0}) View
+  St = State (Unit {0}) SegmentView
 
   abbrev IsSegment : ℕ → Type 0
   IsSegment = st.IsSegment words stride
@@ -62,9 +62,9 @@ module _ (words stride masks : ℕ) where
   SameAt ws ws' d = (i : ℕ) → d ≤ i → i < d + stride → get_or ws' i 0 ≡ get_or ws i 0
 
   -- a segment whose words, and whose builder's words, are the same
-  shown_else : (ws ws' : List ℕ) (views views' : List View) (d : ℕ) → 2 + masks ≤ stride
+  shown_else : (ws ws' : List ℕ) (views views' : List SegmentView) (d : ℕ) → 2 + masks ≤ stride
       → ((l : ℕ) → 2 + masks + l < stride → l / 64 < masks) → SameAt ws ws' d
-      → ((h : ℕ) (v : View) → get_elem? views h ≡ m.some v → v.build ≡ d → (w : View)
+      → ((h : ℕ) (v : SegmentView) → get_elem? views h ≡ m.some v → v.build ≡ d → (w : SegmentView)
       × (get_elem? views' h ≡ m.some w) × (w.build ≡ d) × (w.made ≡ v.made))
       → (x : Seg) → SegShown words stride masks ws views d x
       → SegShown words stride masks ws' views' d x
@@ -93,7 +93,7 @@ module _ (words stride masks : ℕ) where
     apart c d i hc hd ne a b x y = ne (one_segment d c i stride hd hc a b x y)
 
     -- a step of one seat on a word i of the segment c
-    step_shows : (s : St) (k : Core) → Shows words stride masks s k → (id : ℕ) (v w : View)
+    step_shows : (s : St) (k : Core) → Shows words stride masks s k → (id : ℕ) (v w : SegmentView)
         → get_elem? s.views id ≡ m.some v → (c i n : ℕ) → IsSegment c → c ≤ i → i < c + stride
         → (x y : Seg) → At k c x
         → SegShown words stride masks (set s.words i n) (set s.views id w) c y
@@ -121,11 +121,11 @@ module _ (words stride masks : ℕ) where
                 (λ h u is bu. dite (ℕ_discrete h id)
                 (λ q. let uv : u ≡ v = m.some-injective u v (sym is
                 ∙ (ap (get_elem? s.views) q ∙ at)) in
-                let m' = built d ne bd.0 (ap (λ (z : View). z.build) (sym uv) ∙ bu) in (
+                let m' = built d ne bd.0 (ap (λ (z : SegmentView). z.build) (sym uv) ∙ bu) in (
                   w,
                   ap (get_elem? (set s.views id w)) q ∙ at_new s.views id v w at,
                   m'.0,
-                  m'.1 ∙ ap (λ (z : View). z.made) (sym uv),
+                  m'.1 ∙ ap (λ (z : SegmentView). z.made) (sym uv),
                 ))
                 (λ nq. (u, set_else s.views id h w nq ∙ is, bu, refl)))
                 t.0 t.2,
@@ -137,7 +137,7 @@ module _ (words stride masks : ℕ) where
       lists = λ j u is. ⊎_elim
           (λ (t : (j ≡ id) × (w ≡ u)). ap (get_elem? (set k.lists id (list_of w))) t.0
           ∙ (at_new k.lists id (list_of v) (list_of w) (r.lists id v at)
-          ∙ ap (λ (z : View). m.some (list_of z)) t.1))
+          ∙ ap (λ (z : SegmentView). m.some (list_of z)) t.1))
           (λ (t : (j ≢ id) × (get_elem? s.views j ≡ m.some u)). set_else k.lists id j (list_of w)
           t.0 ∙ r.lists j u t.1)
           (at_set s.views id j w u is);
@@ -173,7 +173,7 @@ module _ (words stride masks : ℕ) where
       go (live d p n) a t = (d, p, n, a, t)
 
     -- claim
-    pub claim_ties : (s : St) (k : Core) → Shows words stride masks s k → (id : ℕ) (v : View)
+    pub claim_ties : (s : St) (k : Core) → Shows words stride masks s k → (id : ℕ) (v : SegmentView)
         → get_elem? s.views id ≡ m.some v → (c : ℕ) → IsSegment c → c < length s.words
         → get_or s.words c 0 ≡ 0 → v.build ≡ 0
         → (k' : Core) × core.Steps k (core.claim id c) k'
@@ -182,7 +182,7 @@ module _ (words stride masks : ℕ) where
           homes = s.homes;
           views = set s.views id (st.claims v c);
         } k'
-    claim_ties s k r id v at c b inside none idle = let w : View = st.claims v c in
+    claim_ties s k r id v at c b inside none idle = let w : SegmentView = st.claims v c in
         let y : Seg = building id core.no_delta in let was = free_at s k r c b none in
         let pos = b.0 in
         let keeps : core.list_to (core.seg_to k c y) id (list_of w) ≡ core.seg_to k c y =
@@ -216,12 +216,12 @@ module _ (words stride masks : ℕ) where
                   let u = subst (SegShown words stride masks s.words s.views d) same t.2 in
                   let f = u.1 in
                   let uv : f.0 ≡ v = m.some-injective f.0 v (sym f.1 ∙ at) in
-                  let z : v.build ≡ d = ap (λ (x : View). x.build) (sym uv) ∙ f.2 in
+                  let z : v.build ≡ d = ap (λ (x : SegmentView). x.build) (sym uv) ∙ f.2 in
                   let dp = bd.0 in omega arith
 
     -- what the core has where this seat builds
     building_at : (s : St) (q : st.Kept words stride s) (k : Core) → Shows words stride masks s k
-        → (id : ℕ) (v : View) → get_elem? s.views id ≡ m.some v → 0 < v.build
+        → (id : ℕ) (v : SegmentView) → get_elem? s.views id ≡ m.some v → 0 < v.build
         → (d : ℕ → Option ℕ) × At k v.build (building id d)
         × ((l : ℕ) → 2 + masks + l < stride → d l ≡ put_at masks v.build v.made l)
     building_at s q k r id v at h = let own = (q.seats id v at).building_own h in
@@ -239,13 +239,13 @@ module _ (words stride masks : ℕ) where
                 d,
                 subst (λ (z : ℕ). At k v.build (building z d)) is a,
                 λ l lt. u.3 l lt
-                    ∙ ap (λ (z : View). put_at masks v.build z.made l) uv,
+                    ∙ ap (λ (z : SegmentView). put_at masks v.build z.made l) uv,
               ))
               (λ ne. absurd (other_builds words stride stride_pos s q id g v u.0 at h ne u.1 u.2))
 
     -- put of a value word
     pub put_ties : (s : St) (q : st.Kept words stride s) (k : Core) → Shows words stride masks s k
-        → (id : ℕ) (v : View) → get_elem? s.views id ≡ m.some v → 0 < v.build → (l x : ℕ)
+        → (id : ℕ) (v : SegmentView) → get_elem? s.views id ≡ m.some v → 0 < v.build → (l x : ℕ)
         → 2 + masks + l < stride
         → (k' : Core) × core.Steps k (core.put id v.build l x) k'
         × Shows words stride masks record {
@@ -254,7 +254,7 @@ module _ (words stride masks : ℕ) where
           views = set s.views id (st.puts v (v.build + (2 + masks + l)) x);
         } k'
     put_ties s q k r id v at h l x lt = let c : ℕ = v.build in let i : ℕ = c + (2 + masks + l) in
-        let w : View = st.puts v i x in let own = (q.seats id v at).building_own h in
+        let w : SegmentView = st.puts v i x in let own = (q.seats id v at).building_own h in
         let b = building_at s q k r id v at h in
         let d = b.0 in let y : Seg = building id (core.with_word d l x) in (
           core.seg_to k c y,
@@ -286,7 +286,7 @@ module _ (words stride masks : ℕ) where
 
     -- put of the parent or of a mask word: no step of the core
     pub header_ties : (s : St) (q : st.Kept words stride s) (k : Core)
-        → Shows words stride masks s k → (id : ℕ) (v : View) → get_elem? s.views id ≡ m.some v
+        → Shows words stride masks s k → (id : ℕ) (v : SegmentView) → get_elem? s.views id ≡ m.some v
         → 0 < v.build → (j x : ℕ) → 0 < j → j < 2 + masks
         → Shows words stride masks record {
           words = set s.words (v.build + j) x;
@@ -294,7 +294,7 @@ module _ (words stride masks : ℕ) where
           views = set s.views id (st.puts v (v.build + j) x);
         } k
     header_ties s q k r id v at h j x lo hi = let c : ℕ = v.build in let i : ℕ = c + j in
-        let w : View = st.puts v i x in let own = (q.seats id v at).building_own h in
+        let w : SegmentView = st.puts v i x in let own = (q.seats id v at).building_own h in
         let b = building_at s q k r id v at h in
         let d = b.0 in let y : Seg = building id d in
         let same : core.seg_to k c y ≡ k = ap (λ (xs : List Seg). record k { segs = xs })
@@ -318,7 +318,7 @@ module _ (words stride masks : ℕ) where
         (λ e ne dp z. absurd (ne (sym z))))
 
     -- only the count of a live segment changes
-    recounted : (ws : List ℕ) (views views' : List View) (c n n' p : ℕ) (d : ℕ → Option ℕ)
+    recounted : (ws : List ℕ) (views views' : List SegmentView) (c n n' p : ℕ) (d : ℕ → Option ℕ)
         → c < length ws → 0 < n' → n' ≤ 4294967296 → get_or ws (c + 1) 0 ≡ p
         → ((l : ℕ) → 2 + masks + l < stride → d l ≡ worded masks ws c l)
         → SegShown words stride masks (set ws c n') views' c (live d p n')
@@ -333,7 +333,7 @@ module _ (words stride masks : ℕ) where
           (λ i. chosen (bit_at (sym a i) (l % 64)) (sym b i))),
     )
 
-    list_is : (v : View) (e : Entry) (es : List Entry) (x : ℕ) → v.chain ≡ e ∷ es → v.extra ≡ x
+    list_is : (v : SegmentView) (e : Entry) (es : List Entry) (x : ℕ) → v.chain ≡ e ∷ es → v.extra ≡ x
         → list_of v ≡ e.seg ∷ copies x e.seg
     list_is v e es x a b = (λ i. list_in (a i) (b i))
 
@@ -348,7 +348,7 @@ module _ (words stride masks : ℕ) where
 
     -- share
     pub share_ties : (s : St) (q : st.Kept words stride s) (k : Core) → Shows words stride masks s k
-        → (id : ℕ) (v : View) → get_elem? s.views id ≡ m.some v → (e : Entry) (es : List Entry)
+        → (id : ℕ) (v : SegmentView) → get_elem? s.views id ≡ m.some v → (e : Entry) (es : List Entry)
         → v.chain ≡ e ∷ es → v.extra ≡ 0
         → 0 < get_or s.words e.seg 0 → get_or s.words e.seg 0 < 4294967296
         → (k' : Core) × core.Steps k (core.share id e.seg) k'
@@ -359,7 +359,7 @@ module _ (words stride masks : ℕ) where
           views = set s.views id (st.shares v);
         } k'
     share_ties s q k r id v at e es is single some few = let c : ℕ = e.seg in
-        let w : View = st.shares v in
+        let w : SegmentView = st.shares v in
         let ch = subst (st.Chain words stride (st.IsEntry words stride s.words q.ups)) is
         (q.seats id v at).chained in let b = ch.0.0 in let long = q.long in
         let in_range = b.2 in
@@ -384,7 +384,7 @@ module _ (words stride masks : ℕ) where
 
     -- release of one of many
     pub drop_ties : (s : St) (q : st.Kept words stride s) (k : Core) → Shows words stride masks s k
-        → (id : ℕ) (v : View) → get_elem? s.views id ≡ m.some v → (e : Entry) (es : List Entry)
+        → (id : ℕ) (v : SegmentView) → get_elem? s.views id ≡ m.some v → (e : Entry) (es : List Entry)
         → v.chain ≡ e ∷ es → v.extra ≡ 0
         → 1 < get_or s.words e.seg 0 → get_or s.words e.seg 0 ≤ 4294967296
         → (k' : Core) × core.Steps k (core.release id e.seg) k'
@@ -395,7 +395,7 @@ module _ (words stride masks : ℕ) where
           views = set s.views id (st.drops v);
         } k'
     drop_ties s q k r id v at e es is single some few = let c : ℕ = e.seg in
-        let w : View = st.drops v in
+        let w : SegmentView = st.drops v in
         let ch = subst (st.Chain words stride (st.IsEntry words stride s.words q.ups)) is
         (q.seats id v at).chained in let b = ch.0.0 in let long = q.long in
         let in_range = b.2 in
@@ -429,7 +429,7 @@ module _ (words stride masks : ℕ) where
 
     -- release of the last, and collapse
     pub pop_ties : (s : St) (q : st.Kept words stride s) (k : Core) → Shows words stride masks s k
-        → (id : ℕ) (v : View) → get_elem? s.views id ≡ m.some v → (e : Entry) (es : List Entry)
+        → (id : ℕ) (v : SegmentView) → get_elem? s.views id ≡ m.some v → (e : Entry) (es : List Entry)
         → v.chain ≡ e ∷ es → v.extra ≡ 0
         → get_or s.words e.seg 0 ≡ 1
         → (k' : Core) × core.Steps k (core.release id e.seg) k'
@@ -439,7 +439,7 @@ module _ (words stride masks : ℕ) where
           homes = s.homes;
           views = set s.views id (st.pops v);
         } k'
-    pop_ties s q k r id v at e es is single one = let c : ℕ = e.seg in let w : View = st.pops v in
+    pop_ties s q k r id v at e es is single one = let c : ℕ = e.seg in let w : SegmentView = st.pops v in
         let ch = subst (st.Chain words stride (st.IsEntry words stride s.words q.ups)) is
         (q.seats id v at).chained in let b = ch.0.0 in let long = q.long in
         let in_range = b.2 in
@@ -466,7 +466,7 @@ module _ (words stride masks : ℕ) where
 
     -- publish, where the mask says which values were put
     pub publish_ties : (s : St) (q : st.Kept words stride s) (k : Core)
-        → Shows words stride masks s k → (id : ℕ) (v : View) → get_elem? s.views id ≡ m.some v
+        → Shows words stride masks s k → (id : ℕ) (v : SegmentView) → get_elem? s.views id ≡ m.some v
         → 0 < v.build → v.extra ≡ 0
         → st.look v.made (v.build + 1) ≡ m.some (st.first_of v.chain)
         → ((l : ℕ) → 2 + masks + l < stride
@@ -478,7 +478,7 @@ module _ (words stride masks : ℕ) where
           views = set s.views id (st.publishes v);
         } k'
     publish_ties s q k r id v at h single parent mask = let c : ℕ = v.build in
-        let w : View = st.publishes v in let p : ℕ = st.first_of v.chain in
+        let w : SegmentView = st.publishes v in let p : ℕ = st.first_of v.chain in
         let mine = q.seats id v at in let own = mine.building_own h in
         let b = building_at s q k r id v at h in let d = b.0 in
         let long = q.long in let in_range = own.0.2 in
@@ -496,11 +496,11 @@ module _ (words stride masks : ℕ) where
 
     -- a change of views that keeps lists and what is built, and of no word of a segment
     pub views_show : (s : St) (k k' : Core) → Shows words stride masks s k
-        → (ws' : List ℕ) (views' : List View)
+        → (ws' : List ℕ) (views' : List SegmentView)
         → ((d : ℕ) → IsSegment d → SameAt s.words ws' d)
-        → ((h : ℕ) (v : View) → get_elem? s.views h ≡ m.some v → 0 < v.build → (w : View)
+        → ((h : ℕ) (v : SegmentView) → get_elem? s.views h ≡ m.some v → 0 < v.build → (w : SegmentView)
         × (get_elem? views' h ≡ m.some w) × (w.build ≡ v.build) × (w.made ≡ v.made))
-        → ((j : ℕ) (u : View) → get_elem? views' j ≡ m.some u → Has k' j (list_of u))
+        → ((j : ℕ) (u : SegmentView) → get_elem? views' j ≡ m.some u → Has k' j (list_of u))
         → k'.segs ≡ k.segs → k'.locations ≡ k.locations
         → Shown words stride masks ws' views' k'
     views_show s k k' r ws' views' still keep lists same count = record {
@@ -518,7 +518,7 @@ module _ (words stride masks : ℕ) where
     -- a step of one seat that is none of the core
     pub quiet_ties : (s : St) (k : Core) → Shows words stride masks s k → (ws' : List ℕ)
         → ((d : ℕ) → IsSegment d → SameAt s.words ws' d)
-        → (id : ℕ) (v w : View) → get_elem? s.views id ≡ m.some v → list_of w ≡ list_of v
+        → (id : ℕ) (v w : SegmentView) → get_elem? s.views id ≡ m.some v → list_of w ≡ list_of v
         → w.build ≡ v.build → w.made ≡ v.made
         → Shown words stride masks ws' (set s.views id w) k
     quiet_ties s k r ws' still id v w at list build made =
@@ -527,8 +527,8 @@ module _ (words stride masks : ℕ) where
         (λ e. let uv : u ≡ v = m.some-injective u v (sym is ∙ (ap (get_elem? s.views) e ∙ at)) in (
           w,
           ap (get_elem? (set s.views id w)) e ∙ at_new s.views id v w at,
-          build ∙ ap (λ (z : View). z.build) (sym uv),
-          made ∙ ap (λ (z : View). z.made) (sym uv),
+          build ∙ ap (λ (z : SegmentView). z.build) (sym uv),
+          made ∙ ap (λ (z : SegmentView). z.made) (sym uv),
         ))
         (λ ne. (u, set_else s.views id h w ne ∙ is, refl, refl)))
         (λ j u is. ⊎_elim
@@ -539,7 +539,7 @@ module _ (words stride masks : ℕ) where
         refl refl
 
     -- hand on, to a holder that the core has and no seat is yet
-    pub hand_on_ties : (s : St) (k : Core) → Shows words stride masks s k → (id : ℕ) (v : View)
+    pub hand_on_ties : (s : St) (k : Core) → Shows words stride masks s k → (id : ℕ) (v : SegmentView)
         → get_elem? s.views id ≡ m.some v → (e : Entry) (es : List Entry) → v.chain ≡ e ∷ es
         → v.extra ≡ 1 → 0 < e.seg → v.build ≡ 0
         → Has k (length s.views) []
@@ -550,8 +550,8 @@ module _ (words stride masks : ℕ) where
           views = set s.views id (st.hands_left v) ++ st.hands_right v ∷ [];
         } k'
     hand_on_ties s k r id v at e es is two pos idle room = let c : ℕ = e.seg in
-        let to : ℕ = length s.views in let a : View = st.hands_left v in
-        let b : View = st.hands_right v in let vs : List View = set s.views id a in
+        let to : ℕ = length s.views in let a : SegmentView = st.hands_left v in
+        let b : SegmentView = st.hands_right v in let vs : List SegmentView = set s.views id a in
         let apart_to : to ≢ id = λ q. none_past s.views v (ap (get_elem? s.views) q ∙ at) in
         let len : length vs ≡ to = length-set s.views id a in
         let la : list_of a ≡ c ∷ [] = ap (λ (xs : List Entry). list_in xs 0) is in
@@ -571,7 +571,7 @@ module _ (words stride masks : ℕ) where
               (λ h u iu bu. dite (ℕ_discrete h id)
               (λ q. let uv : u ≡ v = m.some-injective u v (sym iu
               ∙ (ap (get_elem? s.views) q ∙ at)) in
-              let z : u.build ≡ 0 = ap (λ (z : View). z.build) uv ∙ idle in
+              let z : u.build ≡ 0 = ap (λ (z : SegmentView). z.build) uv ∙ idle in
               absurd (omega arith))
               (λ ne. (u, old_at vs h u b (set_else s.views id h a ne ∙ iu), refl, refl)))
               (λ j u iu. ⊎_elim

@@ -16,7 +16,7 @@ use Rattle.seg_core.specs.Steps as core
 use Rattle.seg_core.proofs.Bases.{bases_keep}
 use Rattle.seg_core.proofs.Frees.{empty_counted}
 use Rattle.seg_core.proofs.Reaches.{runs_counted}
-use Rattle.segment_store.specs.declared.board.View.{View}
+use Rattle.segment_store.specs.declared.board.SegmentView.{SegmentView}
 use Rattle.segment_store.specs.Act.{Act, acts, acts_of}
 use Rattle.segment_store.specs.Store as st
 use Rattle.segment_store.specs.Shown.{list_of, Shown, Shows}
@@ -24,7 +24,7 @@ use Rattle.segment_store.specs.Rule.{St, Traced, Rule, Reaches}
 use Rattle.segment_store.proofs.Ties.{inside_at, quiet_ties}
 
 abbrev pub M : Type 0
-M = Me (Unit {0}) View
+M = Me (Unit {0}) SegmentView
 
 pub mine : (s : core.CoreStep) (i : ℕ) (ss : List core.CoreStep) → core.holder s ≡ i
     → acts_of i (s ∷ ss) ≡ acts s ++ acts_of i ss
@@ -42,7 +42,7 @@ reaches words stride masks s r = let n : ℕ = length s.views in
     (l.0, (words, n, stride - (2 + masks), r.traced.steps, l.1), l.2)
 
 module _ (words stride masks : ℕ) where
-  abbrev Tr : List ℕ → List View → Type 0
+  abbrev Tr : List ℕ → List SegmentView → Type 0
   Tr = Traced words stride masks
 
   -- the holders that are no seat yet keep their empty lists
@@ -54,7 +54,7 @@ module _ (words stride masks : ℕ) where
       (bases_keep k k' s h (runs_counted steps (core.empty words holders (stride - (2 + masks))) k
       (empty_counted words holders (stride - (2 + masks))) ran) t ne not).0 [] has
 
-  pub step_traces : (s : St) → Tr s.words s.views → (id : ℕ) (v w : View) (ws' : List ℕ)
+  pub step_traces : (s : St) → Tr s.words s.views → (id : ℕ) (v w : SegmentView) (ws' : List ℕ)
       → get_elem? s.views id ≡ m.some v → (step : core.CoreStep) → core.holder step ≡ id
       → ((g : ℕ) → ¬ (core.GivesTo step g))
       → w.holds ≡ v.holds → w.did ≡ acts step ++ v.did
@@ -74,17 +74,17 @@ module _ (words stride masks : ℕ) where
         );
         own = λ i u is some_holds. ⊎_elim
             (λ (q : (i ≡ id) × (w ≡ u)). let same : w.holds ≡ u.holds =
-            ap (λ (z : View). z.holds) q.1 in
+            ap (λ (z : SegmentView). z.holds) q.1 in
             subst (λ (z : ℕ). acts_of z (step ∷ t.steps) ≡ u.did) (sym q.0) (mine step id t.steps by
             ∙ (ap (λ (z : List Act). acts step ++ z) (t.own id v at (omega arith))
-            ∙ (sym did ∙ ap (λ (z : View). z.did) q.1))))
+            ∙ (sym did ∙ ap (λ (z : SegmentView). z.did) q.1))))
             (λ (q : (i ≢ id) × (get_elem? s.views i ≡ m.some u)). other step i t.steps
             (λ e. q.0 (sym e ∙ by)) ∙ t.own i u q.1 some_holds)
             (at_set s.views id i w u is);
         fresh = λ i past. other step i t.steps (λ e. omega arith) ∙ t.fresh i (omega arith);
       }
 
-  pub quiet_traces : (s : St) → Tr s.words s.views → (id : ℕ) (v w : View) (ws' : List ℕ)
+  pub quiet_traces : (s : St) → Tr s.words s.views → (id : ℕ) (v w : SegmentView) (ws' : List ℕ)
       → get_elem? s.views id ≡ m.some v → w.holds ≡ v.holds → w.did ≡ v.did
       → ((k : Core) → Shows words stride masks s k
       → Shown words stride masks ws' (set s.views id w) k)
@@ -96,9 +96,9 @@ module _ (words stride masks : ℕ) where
             (l.0, l.1, tie l.0 l.2, λ h past below. l.3 h (omega arith) below);
         own = λ i u is some_holds. ⊎_elim
             (λ (q : (i ≡ id) × (w ≡ u)). let same : w.holds ≡ u.holds =
-            ap (λ (z : View). z.holds) q.1 in
+            ap (λ (z : SegmentView). z.holds) q.1 in
             subst (λ (z : ℕ). acts_of z t.steps ≡ u.did) (sym q.0) (t.own id v at (omega arith)
-            ∙ (sym did ∙ ap (λ (z : View). z.did) q.1)))
+            ∙ (sym did ∙ ap (λ (z : SegmentView). z.did) q.1)))
             (λ (q : (i ≢ id) × (get_elem? s.views i ≡ m.some u)). t.own i u q.1 some_holds)
             (at_set s.views id i w u is);
         fresh = λ i past. t.fresh i (omega arith);
@@ -124,7 +124,7 @@ module _ (words stride masks : ℕ) where
       )
 
   -- a load that changes no view of the core
-  pub load_traces : (s : St) → Rule words stride masks s → (i id : ℕ) (v w : View)
+  pub load_traces : (s : St) → Rule words stride masks s → (i id : ℕ) (v w : SegmentView)
       → get_elem? s.views id ≡ m.some v → list_of w ≡ list_of v → w.build ≡ v.build
       → w.made ≡ v.made → w.holds ≡ v.holds → w.did ≡ v.did
       → Tr (set s.words i (get_or s.words i 0)) (set s.views id w)

@@ -7,7 +7,7 @@ use Rattle.seg_core.specs.Steps.{empty}
 use lib.ListN.{get_elem?}
 use Rattle.seg_core.specs.Core.{free}
 use Rattle.segment_store.specs.Entry.{Entry}
-use Rattle.segment_store.specs.declared.board.View.{View}
+use Rattle.segment_store.specs.declared.board.SegmentView.{SegmentView}
 use Rattle.segment_store.specs.Store as st
 use Rattle.segment_store.specs.Shown.{list_of, Shown}
 use Rattle.segment_store.specs.Rule.{St, BasesTie}
@@ -16,7 +16,7 @@ use Rattle.segment_store.proofs.Keeps.{referred}
 
 -- the first segment's count is that of a live segment
 pub counted_first : (words stride : ℕ) → 0 < stride → (s : St) → st.Kept words stride s
-    → (id : ℕ) (v : View) → get_elem? s.views id ≡ some v → (e : Entry) (es : List Entry)
+    → (id : ℕ) (v : SegmentView) → get_elem? s.views id ≡ some v → (e : Entry) (es : List Entry)
     → v.chain ≡ e ∷ es
     → (0 < e.seg) × (0 < get_or s.words e.seg 0) × (get_or s.words e.seg 0 ≤ 4294967296)
 counted_first words stride big s q id v at e es is = let first : st.first_of v.chain ≡ e.seg =
@@ -49,10 +49,10 @@ opens_show words stride masks holders ws big some_holders zeros = record {
   lists = λ i v e. only i v e;
   size = omega arith;
 } where
-  only : (i : ℕ) (v : View) → get_elem? (st.idle 1 0 ∷ []) i ≡ some v
+  only : (i : ℕ) (v : SegmentView) → get_elem? (st.idle 1 0 ∷ []) i ≡ some v
       → get_elem? (replicate holders []) i ≡ some (list_of v)
   only zero v e = none_listed_at holders 0 some_holders
-      ∙ ap (λ (z : View). some (list_of z)) (some-injective (st.idle 1 0) v e)
+      ∙ ap (λ (z : SegmentView). some (list_of z)) (some-injective (st.idle 1 0) v e)
   only (suc i) v e = absurd (some-ne-none v (sym e))
 
 pub bases_tie : (words stride masks : ℕ) → BasesTie words stride masks

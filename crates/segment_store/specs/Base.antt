@@ -10,7 +10,7 @@ use Rattle.version_map.specs.Masks.{chosen}
 use Rattle.version_map.specs.Overlay.{under}
 use Rattle.version_map.specs.Deltas.{at, mask_of}
 use Rattle.segment_store.specs.Entry.{Put, Entry, Look}
-use Rattle.segment_store.specs.declared.board.View.{View}
+use Rattle.segment_store.specs.declared.board.SegmentView.{SegmentView}
 use Rattle.segment_store.specs.Store.{look, first_of, sees, pops, Has, IsSegment}
 
 abbrev pub known_or : m.Option ℕ → ℕ
@@ -55,7 +55,7 @@ abbrev pub longest : ℕ
 longest = 32
 
 -- a hold between two calls
-pub record Rests (words stride masks first depth : ℕ) (v : View) : Type 0 where
+pub record Rests (words stride masks first depth : ℕ) (v : SegmentView) : Type 0 where
   pub single : v.extra ≡ 0
   pub not_alone : v.alone ≡ 0
   pub not_building : v.build ≡ 0
@@ -75,15 +75,15 @@ pub record IsLaid (segment parent stride masks : ℕ) (d : Delta) (made : List P
   pub none_is : (l : ℕ) → 2 + masks + l < stride → at d l ≡ None
       → look made (segment + (2 + masks + l)) ≡ m.none
 
-abbrev pub filled : View → List Put → View
+abbrev pub filled : SegmentView → List Put → SegmentView
 filled v made = record v { made = made }
 
-abbrev pub logged : View → List Look → View
+abbrev pub logged : SegmentView → List Look → SegmentView
 logged v log = record v { log = log }
 
 -- a fork by a new segment
 pub record Forked (root : List ℕ) (words stride masks segment depth : ℕ) (d : Delta)
-    (v w child : View) : Type 0 where
+    (v w child : SegmentView) : Type 0 where
   pub parent_rests : Rests words stride masks segment (depth + 1) w
   pub child_rests : Rests words stride masks segment (depth + 1) child
   pub one_chain : child.chain ≡ w.chain
@@ -101,7 +101,7 @@ IsTaken words stride masks segment l chain old new = (e : Entry) → Has e chain
 
 -- after the first segment was given up
 pub record Popped (root : List ℕ) (words stride masks up depth : ℕ) (old new : Delta)
-    (v w : View) : Type 0 where
+    (v w : SegmentView) : Type 0 where
   pub rests : Rests words stride masks up (depth - 1) w
   pub some_depth : 0 < depth
   pub view : w ≡ pops (sees v)
@@ -111,7 +111,7 @@ pub record Popped (root : List ℕ) (words stride masks up depth : ℕ) (old new
       → under new (value masks root w.chain) l ≡ under old (value masks root v.chain) l
 
 -- a fork of the first segment with no new one
-pub record IsShared (words stride masks first depth : ℕ) (v w child : View) : Type 0 where
+pub record IsShared (words stride masks first depth : ℕ) (v w child : SegmentView) : Type 0 where
   pub parent_rests : Rests words stride masks first depth w
   pub child_rests : Rests words stride masks first depth child
   pub same : w.chain ≡ v.chain

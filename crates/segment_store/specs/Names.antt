@@ -6,7 +6,7 @@ use Rattle.version_map.specs.Deltas.{at, locations}
 use Rattle.version_map.specs.declared.snapshot.Collapsed.{Collapsed}
 use Rattle.version_map.specs.declared.snapshot.Collapsed.TheVariants as collapsed
 use Rattle.segment_store.specs.Act as act
-use Rattle.segment_store.specs.declared.board.View.{View}
+use Rattle.segment_store.specs.declared.board.SegmentView.{SegmentView}
 use Rattle.segment_store.specs.Entry.{Entry, Look}
 use Rattle.segment_store.specs.Store.{sees, pops, IsSegment}
 use Rattle.segment_store.specs.declared.store.Store.{Store}
@@ -19,7 +19,7 @@ use Rattle.segment_store.specs.Base.{IsShared, FoundAll, FoundBetween}
 abbrev pub IsOf : Store → Hold → Type 0
 IsOf s h = (h.seat.table_id ≡ s.table.shared.table_id) × (h.stride ≡ s.stride) × (h.masks ≡ s.masks)
 
-abbrev pub IsSeatOf : Store → Seat (Unit {0}) View → Type 0
+abbrev pub IsSeatOf : Store → Seat (Unit {0}) SegmentView → Type 0
 IsSeatOf s seat = seat.table_id ≡ s.table.shared.table_id
 
 -- a delta with a place for each of its locations
@@ -40,7 +40,7 @@ IsSegmentIn s c = IsSegment s.words s.stride c
 abbrev pub SoundIn : Store → List Entry → Type 0
 SoundIn s es = Sound s.words s.stride s.masks es
 
-abbrev pub RestsIn : Store → ℕ → ℕ → View → Type 0
+abbrev pub RestsIn : Store → ℕ → ℕ → SegmentView → Type 0
 RestsIn s first depth v = Rests s.words s.stride s.masks first depth v
 
 abbrev pub FoundBetweenIn : Store → ℕ → ℕ → List Look → List Look → Type 0
@@ -49,17 +49,17 @@ FoundBetweenIn s from to old new = FoundBetween s.words s.stride from to old new
 abbrev pub FoundAllIn : Store → List Look → List Look → Type 0
 FoundAllIn s old new = FoundAll s.words s.stride old new
 
-abbrev pub ForkedIn : Store → List ℕ → ℕ → ℕ → Delta → View → View → View → Type 0
+abbrev pub ForkedIn : Store → List ℕ → ℕ → ℕ → Delta → SegmentView → SegmentView → SegmentView → Type 0
 ForkedIn s root segment depth d v w child =
     Forked root s.words s.stride s.masks segment depth d v w child
 
-abbrev pub IsSharedIn : Store → ℕ → ℕ → View → View → View → Type 0
+abbrev pub IsSharedIn : Store → ℕ → ℕ → SegmentView → SegmentView → SegmentView → Type 0
 IsSharedIn s first depth v w child = IsShared s.words s.stride s.masks first depth v w child
 
 abbrev pub IsTakenIn : Store → ℕ → ℕ → List Entry → Option ℕ → Option ℕ → Type 0
 IsTakenIn s segment l chain old new = IsTaken s.words s.stride s.masks segment l chain old new
 
-abbrev pub PoppedIn : Store → List ℕ → ℕ → ℕ → Delta → Delta → View → View → Type 0
+abbrev pub PoppedIn : Store → List ℕ → ℕ → ℕ → Delta → Delta → SegmentView → SegmentView → Type 0
 PoppedIn s root up depth old new v w = Popped root s.words s.stride s.masks up depth old new v w
 
 -- the base of the hold: its own words where it has some, else the store's, under its chain

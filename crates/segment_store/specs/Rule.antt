@@ -10,14 +10,14 @@ use lib.ListN.{get_elem?}
 use Rattle.atomic_table.specs.Table.{State}
 use Rattle.seg_core.specs.Core.{Core, Has, base_of}
 use Rattle.seg_core.specs.Steps.{CoreStep, Runs, Reached, empty}
-use Rattle.segment_store.specs.declared.board.View.{View}
+use Rattle.segment_store.specs.declared.board.SegmentView.{SegmentView}
 use Rattle.segment_store.specs.Store as st
 use Rattle.segment_store.specs.Act.{acts_of}
 use Rattle.segment_store.specs.Base.{Sound, value}
 use Rattle.segment_store.specs.Shown.{Shown, Shows}
 
 abbrev pub St : Type 0
-St = State (Unit {0}) View
+St = State (Unit {0}) SegmentView
 
 abbrev pub Fit : ℕ → ℕ → Type 0
 Fit stride masks = (2 + masks ≤ stride) × ((l : ℕ) → 2 + masks + l < stride → l / 64 < masks)
@@ -25,18 +25,18 @@ Fit stride masks = (2 + masks ≤ stride) × ((l : ℕ) → 2 + masks + l < stri
 module _ (words stride masks : ℕ) where
   -- the steps lead from the empty core to one that the words and views show, for any number of
   -- holders that suffices; the holders that are no seat yet have no reference
-  abbrev pub Led : List ℕ → List View → List CoreStep → ℕ → Type 0
+  abbrev pub Led : List ℕ → List SegmentView → List CoreStep → ℕ → Type 0
   Led ws views steps holders = (k : Core)
       × Runs (empty words holders (stride - (2 + masks))) steps k
       × Shown words stride masks ws views k
       × ((h : ℕ) → length views ≤ h → h < holders → Has k h [])
 
-  pub record Traced (ws : List ℕ) (views : List View) : Type 0 where
+  pub record Traced (ws : List ℕ) (views : List SegmentView) : Type 0 where
     -- the steps of all seats, in the order in which they were made, the latest first
     pub steps : List CoreStep
     pub led : (holders : ℕ) → length views ≤ holders → Led ws views steps holders
     -- each seat has noted its own, until it is spent
-    pub own : (i : ℕ) (v : View) → get_elem? views i ≡ some v → 0 < v.holds
+    pub own : (i : ℕ) (v : SegmentView) → get_elem? views i ≡ some v → 0 < v.holds
         → acts_of i steps ≡ v.did
     pub fresh : (i : ℕ) → length views ≤ i → acts_of i steps ≡ []
 
@@ -50,6 +50,6 @@ module _ (words stride masks : ℕ) where
 
   abbrev pub BasesTie : Type 0
   BasesTie = (s : St) (k : Core) → Rule s → Shows words stride masks s k
-      → (id : ℕ) (v : View) → get_elem? s.views id ≡ some v → Sound words stride masks v.chain
+      → (id : ℕ) (v : SegmentView) → get_elem? s.views id ≡ some v → Sound words stride masks v.chain
       → (root : List ℕ) (n l : ℕ) → length v.chain ≤ n → 2 + masks + l < stride
       → base_of n (slice_index root) k.segs (st.first_of v.chain) l ≡ value masks root v.chain l

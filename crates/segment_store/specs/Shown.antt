@@ -9,7 +9,7 @@ use Rattle.version_map.specs.Masks.{chosen}
 use Rattle.seg_core.specs.Applies.{copies}
 use Rattle.seg_core.specs.Core.{Seg, free, building, live, Core, At, Has}
 use Rattle.segment_store.specs.Entry.{Put, Entry}
-use Rattle.segment_store.specs.declared.board.View.{View}
+use Rattle.segment_store.specs.declared.board.SegmentView.{SegmentView}
 use Rattle.segment_store.specs.Store as st
 
 abbrev pub list_in : List Entry → ℕ → List ℕ
@@ -17,7 +17,7 @@ list_in [] extra = []
 list_in (e ∷ es) extra = e.seg ∷ copies extra e.seg
 
 -- the references of a view
-abbrev pub list_of : View → List ℕ
+abbrev pub list_of : SegmentView → List ℕ
 list_of v = list_in v.chain v.extra
 
 abbrev pub std_option : m.Option ℕ → Option ℕ
@@ -33,20 +33,20 @@ worded masks ws c l = chosen (bit_at (slice_index ws (c + (2 + l / 64))) (l % 64
     (slice_index ws (c + (2 + masks + l)))
 
 module _ (words stride masks : ℕ) where
-  abbrev pub SegShown : List ℕ → List View → ℕ → Seg → Type 0
+  abbrev pub SegShown : List ℕ → List SegmentView → ℕ → Seg → Type 0
   SegShown ws views c free = slice_index ws c ≡ 0
   SegShown ws views c (building h d) = (slice_index ws c ≡ st.building)
-      × ((v : View) × (get_elem? views h ≡ m.some v) × (v.build ≡ c)
+      × ((v : SegmentView) × (get_elem? views h ≡ m.some v) × (v.build ≡ c)
       × ((l : ℕ) → 2 + masks + l < stride → d l ≡ put_at masks c v.made l))
   SegShown ws views c (live d p n) = (slice_index ws c ≡ n) × (0 < n) × (n ≤ 4294967296)
       × (slice_index ws (c + 1) ≡ p)
       × ((l : ℕ) → 2 + masks + l < stride → d l ≡ worded masks ws c l)
 
-  pub record Shown (ws : List ℕ) (views : List View) (k : Core) : Type 0 where
+  pub record Shown (ws : List ℕ) (views : List SegmentView) (k : Core) : Type 0 where
     pub segs : (c : ℕ) → st.IsSegment words stride c → (x : Seg) × At k c x × SegShown ws views c x
     pub others : (c : ℕ) (x : Seg) → At k c x → st.IsSegment words stride c ⊎ (x ≡ free)
-    pub lists : (i : ℕ) (v : View) → get_elem? views i ≡ m.some v → Has k i (list_of v)
+    pub lists : (i : ℕ) (v : SegmentView) → get_elem? views i ≡ m.some v → Has k i (list_of v)
     pub size : 2 + masks + k.locations ≡ stride
 
-  abbrev pub Shows : State (Unit {0}) View → Core → Type 0
+  abbrev pub Shows : State (Unit {0}) SegmentView → Core → Type 0
   Shows s k = Shown s.words s.views k

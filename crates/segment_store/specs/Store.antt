@@ -7,12 +7,12 @@ use Rattle.atomic_table.specs.Table.{State, Me, Step}
 use Rattle.seg_core.specs.Core.{total, is_at}
 use Rattle.segment_store.specs.Entry.{Put, Entry}
 use Rattle.segment_store.specs.Act as act
-use Rattle.segment_store.specs.declared.board.View.{View}
+use Rattle.segment_store.specs.declared.board.SegmentView.{SegmentView}
 
 abbrev pub building : ℕ
 building = 9223372036854775808
 
-abbrev pub idle : ℕ → ℕ → View
+abbrev pub idle : ℕ → ℕ → SegmentView
 idle holds left = record {
   chain = [];
   extra = 0;
@@ -43,13 +43,13 @@ abbrev pub refs_in : ℕ → List Entry → ℕ → ℕ
 refs_in c [] extra = 0
 refs_in c (e ∷ es) extra = cond (e.seg == c) (1 + extra) 0
 
-abbrev pub refs : ℕ → View → ℕ
+abbrev pub refs : ℕ → SegmentView → ℕ
 refs c v = refs_in c v.chain v.extra
 
-abbrev pub builds : ℕ → View → ℕ
+abbrev pub builds : ℕ → SegmentView → ℕ
 builds c v = is_at c v.build
 
-abbrev pub held : View → ℕ
+abbrev pub held : SegmentView → ℕ
 held v = v.holds + v.left
 
 -- a count, its references and builders, and the parent that the ghost list has
@@ -76,14 +76,14 @@ module _ (words stride : ℕ) where
   Chain B [] = Unit {0}
   Chain B (e ∷ es) = B e × (e.up ≡ first_of es) × Chain B es
 
-  pub record Knows (ws ups : List ℕ) (v : View) : Type 0 where
+  pub record Knows (ws ups : List ℕ) (v : SegmentView) : Type 0 where
     pub chained : Chain (IsEntry ws ups) v.chain
     pub building_own : 0 < v.build → IsSegment v.build × (slice_index ws v.build ≡ building)
         × Shows ws v.build v.made
     pub alone_is : 0 < v.alone → (0 < first_of v.chain) × (slice_index ws (first_of v.chain) ≡ 1)
     pub idle_is : v.holds ≡ 0 → (v.chain ≡ []) × (v.build ≡ 0)
 
-  pub record Kept (s : State (Unit {0}) View) : Type 0 where
+  pub record Kept (s : State (Unit {0}) SegmentView) : Type 0 where
     -- the parent of each live segment, and 0 elsewhere
     pub ups : List ℕ
     pub rank : ℕ → ℕ
@@ -95,23 +95,23 @@ module _ (words stride : ℕ) where
         → Counts (slice_index s.words c) (total (refs c) s.views + total (is_at c) ups)
         (total (builds c) s.views) (get_elem? ups c)
     pub ranked : (c p : ℕ) → get_elem? ups c ≡ some p → 0 < p → (rank p < rank c) × IsSegment c
-    pub seats : (i : ℕ) (v : View) → get_elem? s.views i ≡ some v → Knows s.words ups v
+    pub seats : (i : ℕ) (v : SegmentView) → get_elem? s.views i ≡ some v → Knows s.words ups v
     pub tally : slice_index s.words 0 ≡ total held s.views % 18446744073709551616
 
 -- what a step makes of its seat's view
-abbrev pub sees : View → View
+abbrev pub sees : SegmentView → SegmentView
 sees v = record v { alone = 1 }
 
-abbrev pub notes : View → ℕ → ℕ → View
+abbrev pub notes : SegmentView → ℕ → ℕ → SegmentView
 notes v c n = record v { log = record { segment = c; count = n } ∷ v.log }
 
-abbrev pub claims : View → ℕ → View
+abbrev pub claims : SegmentView → ℕ → SegmentView
 claims v c = record v { build = c; made = []; did = act.claim c ∷ v.did }
 
-abbrev pub puts : View → ℕ → ℕ → View
+abbrev pub puts : SegmentView → ℕ → ℕ → SegmentView
 puts v i w = record v { made = record { at = i; word = w } ∷ v.made }
 
-abbrev pub publishes : View → View
+abbrev pub publishes : SegmentView → SegmentView
 publishes v = record v {
   chain = record { seg = v.build; up = first_of v.chain; body = v.made }
       ∷ v.chain;
@@ -122,14 +122,14 @@ publishes v = record v {
   did = act.publish v.build ∷ v.did;
 }
 
-abbrev pub shares : View → View
+abbrev pub shares : SegmentView → SegmentView
 shares v = record v { extra = 1; alone = 0; did = act.share (first_of v.chain) ∷ v.did }
 
 -- a last reference is given up: a collapse after a look that found 1, and else a release
 abbrev pub gave_up : ℕ → ℕ → act.Act
 gave_up alone c = cond (alone == 0) (act.release c) (act.collapse c)
 
-abbrev pub pops : View → View
+abbrev pub pops : SegmentView → SegmentView
 pops v = record v {
   chain = rest_of v.chain;
   alone = 0;
@@ -137,10 +137,10 @@ pops v = record v {
       ∷ v.did;
 }
 
-abbrev pub drops : View → View
+abbrev pub drops : SegmentView → SegmentView
 drops v = record v { chain = []; alone = 0; did = act.release (first_of v.chain) ∷ v.did }
 
-abbrev pub counts : View → View
+abbrev pub counts : SegmentView → SegmentView
 counts v = record v { left = v.left + 1 }
 
 abbrev pub Has : Entry → List Entry → Type 0
@@ -148,7 +148,7 @@ Has e [] = ⊥
 Has e (x ∷ xs) = (x ≡ e) ⊎ Has e xs
 
 abbrev Sat : Type 0
-Sat = Me (Unit {0}) View
+Sat = Me (Unit {0}) SegmentView
 
 abbrev pub Then : Type 1
 Then = Step (Unit {0}) → Sat → ℕ → Sat → Type 0
@@ -189,7 +189,7 @@ abbrev pub tallied : Then
 tallied st m r m' = m' ≡ (counts m.0, m.1)
 
 -- how a fork and a gather cut and join views
-abbrev pub hands_left : View → View
+abbrev pub hands_left : SegmentView → SegmentView
 hands_left v = record v {
   extra = 0;
   left = v.left - 1;
@@ -197,7 +197,7 @@ hands_left v = record v {
       ∷ v.did;
 }
 
-abbrev pub hands_right : View → View
+abbrev pub hands_right : SegmentView → SegmentView
 hands_right v = record {
   chain = v.chain;
   extra = 0;
@@ -210,8 +210,8 @@ hands_right v = record {
   log = [];
 }
 
-abbrev pub parts_left : View → View
+abbrev pub parts_left : SegmentView → SegmentView
 parts_left v = record v { left = v.left - 1 }
 
-abbrev pub gathers : View → View → View
+abbrev pub gathers : SegmentView → SegmentView → SegmentView
 gathers v w = record v { holds = v.holds + w.holds; left = v.left + w.left }

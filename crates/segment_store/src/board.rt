@@ -11,14 +11,14 @@ use std::marker::Model;
 
 /// How many words a store has, how many a segment, and how many of these are mask words.
 #[derive(Drop)]
-pub struct Size {
+pub struct StoreSize {
     pub words: u64,
     pub stride: u64,
     pub masks: u64,
 }
 
 /// What a seat knows and refers to. No value of it is made.
-pub struct View {
+pub struct SegmentView {
     // The segments along the parents, from the one that it refers to.
     pub ghost chain: { List Entry } by { coded_list entry_coded },
     // One more reference to the first segment of the chain, or none.
@@ -37,6 +37,6 @@ pub struct View {
     pub ghost log: { List Look } by { coded_list look_coded },
 }
 
-impl Model for View {
+impl Model for SegmentView {
     ghost also_owns = { λ _. ftrue };
 }

@@ -8,7 +8,7 @@ mod laws;
 mod plays;
 mod store;
 
-pub use board::{Size, View};
+pub use board::{SegmentView, StoreSize};
 pub use held::Held;
 pub use laws::{core_laws, depth_bound, group_law, held_law};
 pub use plays::Law;

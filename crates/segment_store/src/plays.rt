@@ -4,13 +4,13 @@ ghost use Rattle.segment_store.specs.Store.{idle, looked, saw, found, claimed, w
 ghost use Rattle.segment_store.specs.Store.{shared, released, tallied, hands_left, hands_right};
 ghost use Rattle.segment_store.specs.Store.{parts_left, gathers};
 
-use crate::board::{Size, View};
+use crate::board::{SegmentView, StoreSize};
 use atomic_table::{Join, Play, Split, TableRule};
 
 /// The rule of a store's table. The first seat has one hold and no chain.
 pub struct Law;
 
-impl TableRule<(), View, Size> for Law {
+impl TableRule<(), SegmentView, StoreSize> for Law {
     ghost holds = { λ size. Rule size.words size.stride size.masks };
 
     ghost first = { λ _. idle 1 0 };
@@ -18,67 +18,67 @@ impl TableRule<(), View, Size> for Law {
 
 pub struct Look;
 
-impl Play<(), View> for Look {
+impl Play<(), SegmentView> for Look {
     ghost then = { looked };
 }
 
 pub struct See;
 
-impl Play<(), View> for See {
+impl Play<(), SegmentView> for See {
     ghost then = { saw };
 }
 
 pub struct Find;
 
-impl Play<(), View> for Find {
+impl Play<(), SegmentView> for Find {
     ghost then = { found };
 }
 
 pub struct Claim;
 
-impl Play<(), View> for Claim {
+impl Play<(), SegmentView> for Claim {
     ghost then = { claimed };
 }
 
 pub struct Write;
 
-impl Play<(), View> for Write {
+impl Play<(), SegmentView> for Write {
     ghost then = { wrote };
 }
 
 pub struct Adopt;
 
-impl Play<(), View> for Adopt {
+impl Play<(), SegmentView> for Adopt {
     ghost then = { adopted };
 }
 
 pub struct Publish;
 
-impl Play<(), View> for Publish {
+impl Play<(), SegmentView> for Publish {
     ghost then = { published };
 }
 
 pub struct Share;
 
-impl Play<(), View> for Share {
+impl Play<(), SegmentView> for Share {
     ghost then = { shared };
 }
 
 pub struct Release;
 
-impl Play<(), View> for Release {
+impl Play<(), SegmentView> for Release {
     ghost then = { released };
 }
 
 pub struct Tally;
 
-impl Play<(), View> for Tally {
+impl Play<(), SegmentView> for Tally {
     ghost then = { tallied };
 }
 
 pub struct HandOn;
 
-impl Split<View> for HandOn {
+impl Split<SegmentView> for HandOn {
     ghost left = { hands_left };
 
     ghost right = { hands_right };
@@ -86,7 +86,7 @@ impl Split<View> for HandOn {
 
 pub struct Part;
 
-impl Split<View> for Part {
+impl Split<SegmentView> for Part {
     ghost left = { parts_left };
 
     ghost right = { λ _. idle 1 0 };
@@ -94,7 +94,7 @@ impl Split<View> for Part {
 
 pub struct Witness;
 
-impl Split<View> for Witness {
+impl Split<SegmentView> for Witness {
     ghost left = { λ v. v };
 
     ghost right = { λ _. idle 0 0 };
@@ -102,7 +102,7 @@ impl Split<View> for Witness {
 
 pub struct Gather;
 
-impl Join<View> for Gather {
+impl Join<SegmentView> for Gather {
     ghost both = { gathers };
 
     ghost spent = { idle 0 0 };

@@ -22,7 +22,7 @@ mod rows;
 mod steps;
 mod walks;
 
-use crate::board::{Size, View};
+use crate::board::{SegmentView, StoreSize};
 use crate::plays::Law;
 use atomic_table::{Seat, Table};
 pub use closing::Shut;
@@ -30,7 +30,7 @@ use copies::{copy_of, words_under};
 use std::alloc::{AllocError, Global};
 use version_map::{Collapsed, Delta, How, mask_rows};
 
-pub type Place = Seat<(), View>;
+pub type Place = Seat<(), SegmentView>;
 
 // No chain is longer.
 const LONGEST: u64 = 32;
@@ -38,7 +38,7 @@ const LONGEST: u64 = 32;
 /// Segments of words that many threads share.
 #[derive(Drop)]
 pub struct Store {
-    table: Table<(), View, Size, Law, Global>,
+    table: Table<(), SegmentView, StoreSize, Law, Global>,
     initial: Vec<u64>,
     stride: usize,
     masks: usize,
@@ -55,7 +55,7 @@ pub struct Store {
 
 /// What one revision reads under its own delta. It is never let go of: `release` takes it.
 pub struct Hold {
-    seat: Seat<(), View>,
+    seat: Seat<(), SegmentView>,
     first: usize,
     depth: u64,
     stride: usize,
@@ -130,7 +130,7 @@ impl Store {
         let words = (segments + 1) * stride;
         let mut first = vec![in alloc; 0; words]?;
         first[0] = 1;
-        let size = Size {
+        let size = StoreSize {
             words: words as u64,
             stride: stride as u64,
             masks: masks as u64,

@@ -1,3 +1,5 @@
+-- Proofs of static_rules: the static rules as a relation, one row each, by which a text's first fault is
+-- defined.
 mod Back
 mod Blocks
 mod Decls

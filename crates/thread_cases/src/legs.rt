@@ -7,7 +7,7 @@ ghost use Rattle.thread_cases.specs.Tree.{after_fork, child_of, is_end};
 use crate::going::{Done, Forking, Going, outlived};
 use crate::machine::Tree;
 use crate::node::{Node, Stage};
-use hub_workers::{Event, Legs, Settled};
+use hub_workers::{LegEvent, Legs, SettledLeg};
 use std::alloc::AllocError;
 
 /// A thread has room for so many legs. At the next one memory is wanting.
@@ -17,7 +17,7 @@ pub struct Room {
 }
 
 // The next event of a revision.
-fn next_event(runner: Going) -> Event<Forking, Node, Node>
+fn next_event(runner: Going) -> LegEvent<Forking, Node, Node>
     ensures { Comes tree is_end (λ e. e.by_join) (λ f. after_fork f.node)
         (λ f. child_of f.node) runner.node result }
 {
@@ -25,14 +25,14 @@ fn next_event(runner: Going) -> Event<Forking, Node, Node>
     match node.stage {
         Stage::Begins => {
             if node.depth == 0 {
-                Event::End(node.ended())
+                LegEvent::End(node.ended())
             } else {
-                Event::Fork(Forking { node })
+                LegEvent::Fork(Forking { node })
             }
         },
-        Stage::Forked => Event::Fork(Forking { node }),
-        Stage::JoinsFirst | Stage::JoinsSecond => Event::Join(node),
-        Stage::Ends | Stage::Over => Event::End(node.ended()),
+        Stage::Forked => LegEvent::Fork(Forking { node }),
+        Stage::JoinsFirst | Stage::JoinsSecond => LegEvent::Join(node),
+        Stage::Ends | Stage::Over => LegEvent::End(node.ended()),
     }
 }
 
@@ -57,7 +57,10 @@ impl Legs for Tree {
 
     ghost told_as = { λ p. after_fork p.node };
 
-    fn run_leg(hand: &mut Room, runner: Going) -> Result<Event<Forking, Node, Node>, AllocError> {
+    fn run_leg(
+        hand: &mut Room,
+        runner: Going,
+    ) -> Result<LegEvent<Forking, Node, Node>, AllocError> {
         if hand.legs == 0 {
             return Err(AllocError);
         }
@@ -73,8 +76,8 @@ impl Legs for Tree {
         parent.told(number)
     }
 
-    fn settle(_hand: &mut Room, claimed: Going) -> Result<Settled<Going, Node>, AllocError> {
-        Ok(Settled::Run(claimed))
+    fn settle(_hand: &mut Room, claimed: Going) -> Result<SettledLeg<Going, Node>, AllocError> {
+        Ok(SettledLeg::Run(claimed))
     }
 
     fn retire(_hand: &mut Room, stopped: Done) -> Node {

@@ -16,7 +16,7 @@ use Rattle.code_machine.specs.Machines.{act, numbered, start_in}
 use Rattle.code_machine.proofs.Changes.{LegOf, went, bore, took, twice, leg_ways, joinee_stays}
 use Rattle.revision_machine.proofs.Replays.{replays_keep}
 use Rattle.revision_machine.proofs.Lists.{at_front, at_below, below_at}
-use Rattle.code_machine.proofs.Meeting.{named_counts}
+use Rattle.code_machine.proofs.MachineConditions.{named_counts}
 use Rattle.code_machine.proofs.Paying.{BearOk, ActOk, act_ok, join_keeps_forks}
 use Rattle.code_machine.proofs.Typing.{bears_act}
 use Rattle.code_world.specs.declared.table.Birth.{Birth}

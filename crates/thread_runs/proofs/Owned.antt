@@ -4,7 +4,7 @@ use Rattle.std.specs.Prelude.{◌≢◌}
 use Rattle.rev_code.specs.declared.code.Code.{Code}
 use Rattle.leg_run.specs.declared.setting.CodeSetting.{CodeSetting}
 use Rattle.rev_vm.specs.Starts.{run_under}
-use Rattle.code_runs.proofs.Underway.{of_run}
+use Rattle.code_runs.proofs.WorldsAndRuns.{of_run}
 use Rattle.revision_machine.specs.Numbered.{Both, Listing, paths_of}
 use Rattle.code_machine_laws.specs.Reached.{most_fuel}
 use Rattle.hub_core.specs.declared.state.HubState.{HubState}

@@ -14,7 +14,7 @@ use code_verifier::Verified;
 use hub_workers::Gate;
 use leg_run::CodeSetting;
 use merge_kernels::KernelPlan;
-use rev_workers::{Ran as Left, run_threads as run_over_store};
+use rev_workers::{StoreRan as Left, run_threads as run_over_store};
 use std::alloc::{AllocError, Global};
 use std::sync::Wait;
 use std::thread::Threads;

@@ -18,7 +18,7 @@ mod wanted;
 use case_tables::{Pieces, Tally, play_table};
 use kernels::Kernels;
 use merge_kernels::{
-    Kernel, RowKernel, RowRun, Run, greatest, greatest_def, least, least_def, sum, sum_def,
+    Kernel, NumberRun, RowKernel, RowRun, greatest, greatest_def, least, least_def, sum, sum_def,
     sum_lanes,
 };
 use rev_num::NumFault;
@@ -32,7 +32,7 @@ fn main(rt: HostRuntime) -> io::Result<()> {
     let sums = Arc::new(alloc, AtomicU64::new(0))?;
     let rows = Arc::new(alloc, AtomicU64::new(0))?;
     let (first, second, lanes) = (sums.clone()?, sums.clone()?, rows.clone()?);
-    let by_sum: Run = Box::new(
+    let by_sum: NumberRun = Box::new(
         alloc,
         move |m: i64, j: i64, r: i64| -> Result<i64, NumFault>
             ensures { result ≡ answer_of sum_expression m j r }
@@ -50,19 +50,19 @@ fn main(rt: HostRuntime) -> io::Result<()> {
             sum_lanes(m, j, r)
         },
     )?;
-    let by_greatest: Run = Box::new(
+    let by_greatest: NumberRun = Box::new(
         alloc,
         |m: i64, j: i64, r: i64| -> Result<i64, NumFault>
             ensures { result ≡ answer_of greatest_expression m j r }
         { greatest(m, j, r) },
     )?;
-    let by_least: Run = Box::new(
+    let by_least: NumberRun = Box::new(
         alloc,
         |m: i64, j: i64, r: i64| -> Result<i64, NumFault>
             ensures { result ≡ answer_of least_expression m j r }
         { least(m, j, r) },
     )?;
-    let without_row: Run = Box::new(
+    let without_row: NumberRun = Box::new(
         alloc,
         move |m: i64, j: i64, r: i64| -> Result<i64, NumFault>
             ensures { result ≡ answer_of sum_expression m j r }

@@ -1,3 +1,5 @@
+-- Proofs of trace_diagram: traces, their text both ways, and where the trace begins in a source that holds a
+-- text and a trace.
 pub mod Cutting
 pub mod Faults
 pub mod TextLines
@@ -8,7 +10,7 @@ pub mod EndForms
 pub mod Stages
 pub mod Partials
 pub mod OneLines
-pub mod Going
+pub mod LineOrder
 pub mod Reading
 pub mod ChangeForms
 pub mod Forks

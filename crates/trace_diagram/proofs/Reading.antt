@@ -12,7 +12,7 @@ use Rattle.trace_diagram.specs.Traces.{BeginsTraceText, GoesWrong, IsFirstFault,
 use Rattle.trace_diagram.specs.declared.diagram.Trace.{Trace}
 use Rattle.trace_diagram.proofs.Cutting.{append_cancel, cut_once, not_without}
 use Rattle.trace_diagram.proofs.Faults.{lines_ended, append_nothing}
-use Rattle.trace_diagram.proofs.Going.{flat_append, least_form, least_trace, partial_begins, trace_goes}
+use Rattle.trace_diagram.proofs.LineOrder.{flat_append, least_form, least_trace, partial_begins, trace_goes}
 use Rattle.trace_diagram.proofs.OneLines.{follows_line, goes_lines}
 use Rattle.trace_diagram.proofs.Partials.{all_more_one, begun}
 use Rattle.trace_diagram.proofs.Stages.{goes_behind}

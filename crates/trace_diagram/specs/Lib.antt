@@ -1,3 +1,5 @@
+-- Definitions of trace_diagram: traces, their text both ways, and where the trace begins in a source that holds
+-- a text and a trace.
 pub mod Places
 pub mod Lines
 pub mod Traces

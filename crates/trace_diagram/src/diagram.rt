@@ -3,13 +3,13 @@
 use rev_num::{Bytes, Items, Path, Trap, Value};
 
 /// The trace of a run: one part for each revision, in post-order of paths, so that `main` is last.
-#[derive(Debug, Drop)]
+#[derive(Drop)]
 pub struct Trace {
     pub parts: Items<Part>,
 }
 
 /// What one revision did, up to its end.
-#[derive(Debug, Drop)]
+#[derive(Drop)]
 pub struct Part {
     pub path: Path,
     /// The forks and joins, in the order in which they came.
@@ -25,14 +25,14 @@ pub struct Part {
 }
 
 /// A fork or a join, with the line of its statement.
-#[derive(Debug, Drop)]
+#[derive(Drop)]
 pub enum TraceEvent {
     Forked { child: Path, line: u32 },
     Joined { on: Path, line: u32 },
 }
 
 /// How a revision ended.
-#[derive(Debug, Drop)]
+#[derive(Drop)]
 pub enum PartEnd {
     Done,
     /// By a trap. The place is that of the location whose merge faulted, and empty for other
@@ -42,7 +42,7 @@ pub enum PartEnd {
 
 /// A location that was written: its name, the value last written, and the value it had in the
 /// revision's snapshot.
-#[derive(Debug, Drop)]
+#[derive(Drop)]
 pub struct Change {
     pub place: Bytes,
     pub value: Value,

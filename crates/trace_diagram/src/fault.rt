@@ -6,7 +6,7 @@ ghost use Rattle.trace_diagram.specs.declared.fault.TraceFault.TheVariants.{OutO
 use std::alloc::AllocError;
 
 /// Why no trace was read: the bytes go wrong behind this many of them, or no memory was left.
-#[derive(Clone, Copy, PartialEq, Eq, Debug, Drop)]
+#[derive(Clone, Copy, Drop)]
 pub enum TraceFault {
     Malformed { at: u64 },
     OutOfMemory,

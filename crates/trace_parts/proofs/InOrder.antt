@@ -15,8 +15,8 @@ use Rattle.revision_machine.specs.Laws.{IsIn, IsDistinct}
 use Rattle.revision_machine.proofs.Paths.{some_inj, apart-same, decide_same}
 use Rattle.trace_diagram.specs.declared.diagram.Part.{Part}
 use Rattle.audit_rules.specs.Traces.{InPostOrder, part_at, paths_of}
-use Rattle.audit_rules.proofs.Own.{none_some}
-use Rattle.trace_parts.specs.Made.{is_sooner, post_order}
+use Rattle.audit_rules.proofs.OneOwnRun.{none_some}
+use Rattle.trace_parts.specs.PartOfRevision.{is_sooner, post_order}
 use Rattle.std.specs.declared.cmp.Ordering.TheVariants.{Less, Equal, Greater}
 
 -- ---- the order

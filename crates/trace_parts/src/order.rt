@@ -2,7 +2,7 @@
 
 ghost use Rattle.std.specs.Prelude.{◌≡◌};
 ghost use Rattle.std.specs.List.Sorted.{IsPermutation, IsSortedBy};
-ghost use Rattle.trace_parts.specs.Made.{is_sooner, post_order};
+ghost use Rattle.trace_parts.specs.PartOfRevision.{is_sooner, post_order};
 
 use rev_num::Path;
 use std::cmp::Ordering;

@@ -3,25 +3,25 @@
 ghost use Rattle.std.specs.Prelude.{◌≡◌, ◌++◌, [], IfOk, OnOk, map, option_copied};
 ghost use Rattle.revision_state.specs.Phases as phases;
 ghost use Rattle.audit_rules.specs.Parts as spec;
-ghost use Rattle.trace_parts.specs.Made.{end_by, part_by};
+ghost use Rattle.trace_parts.specs.PartOfRevision.{end_by, part_by};
 
 use rev_num::{Bytes, Cause, Items, Path, Trap};
 use revision_data::Location;
-use revision_state::Noted;
+use revision_state::ForkOrJoin;
 use revision_steps::Local;
 use std::alloc::{AllocError, Global};
 use trace_diagram::{Change, Part, PartEnd, TraceEvent};
 
 /// An entry of the list of forks and joins, as a trace has it.
-fn event_of(alloc: Global, noted: &Noted) -> Result<TraceEvent, AllocError>
+fn event_of(alloc: Global, noted: &ForkOrJoin) -> Result<TraceEvent, AllocError>
     ensures { IfOk result (λ e. e ≡ spec.event_of (phases.noted noted.now)) }
 {
     Ok(match noted {
-        Noted::Forked { path, line } => TraceEvent::Forked {
+        ForkOrJoin::Forked { path, line } => TraceEvent::Forked {
             child: path.copy(alloc)?,
             line: *line,
         },
-        Noted::Joined { path, line } => TraceEvent::Joined {
+        ForkOrJoin::Joined { path, line } => TraceEvent::Joined {
             on: path.copy(alloc)?,
             line: *line,
         },
@@ -29,7 +29,7 @@ fn event_of(alloc: Global, noted: &Noted) -> Result<TraceEvent, AllocError>
 }
 
 /// The forks and joins, as a trace has them.
-fn events_of(alloc: Global, list: &[Noted]) -> Result<Vec<TraceEvent>, AllocError>
+fn events_of(alloc: Global, list: &[ForkOrJoin]) -> Result<Vec<TraceEvent>, AllocError>
     ensures { IfOk result
         (λ v. v.items ≡ map spec.event_of (map phases.noted list.now)) }
 {

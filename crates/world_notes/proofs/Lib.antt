@@ -4,4 +4,4 @@ pub mod Adding
 pub mod Noting
 pub mod Below
 pub mod Changing
-pub mod Leading
+pub mod NotesOfLegs

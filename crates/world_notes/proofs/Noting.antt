@@ -27,7 +27,7 @@ use Rattle.code_world.specs.Meetings as told
 use Rattle.code_world.specs.Meetings.{HasMeeting, MeetingOf}
 use Rattle.code_world.proofs.Rows.{some_same, more_length}
 use Rattle.code_machine_laws.specs.Reached.{IsReached}
-use Rattle.world_runs.specs.Kept.{KeepsOn}
+use Rattle.world_runs.specs.KeptByLegs.{KeepsOn}
 use Rattle.world_notes.specs.declared.noted.Noted.{Noted}
 use Rattle.world_notes.specs.Changes.{IsChanged, entries_of, HasAdded, IsBorn, IsOverNow, HasNoted, listed_by}
 use Rattle.world_notes.specs.Notes.{IsNoted, AreNoted, NotesOf}

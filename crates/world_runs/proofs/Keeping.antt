@@ -22,9 +22,9 @@ use Rattle.ready_queue.specs.declared.queue.ReadyQueue.{ReadyQueue}
 use Rattle.world_runs.specs.declared.made.Made.{Made}
 use Rattle.world_runs.specs.declared.made.Made.TheVariants as made
 use Rattle.world_runs.specs.Covers.{CoversWorld}
-use Rattle.world_runs.specs.Made.{made_of, HasMade}
-use Rattle.world_runs.specs.Kept.{Kept, KeepsOn, MadeKept, HasLeastKeeping, HasFinishedKeeping}
-use Rattle.world_runs.proofs.Leading.{Came, came_none, came_more, came_last}
+use Rattle.world_runs.specs.LegOrNone.{made_of, HasMade}
+use Rattle.world_runs.specs.KeptByLegs.{Kept, KeepsOn, MadeKept, HasLeastKeeping, HasFinishedKeeping}
+use Rattle.world_runs.proofs.LeastLegs.{Came, came_none, came_more, came_last}
 use Rattle.world_runs.proofs.Making.{made_live}
 
 -- ---- one leg

@@ -3,5 +3,5 @@
 pub mod Making
 pub mod Covering
 pub mod Noting
-pub mod Leading
+pub mod LeastLegs
 pub mod Keeping

@@ -23,7 +23,7 @@ use Rattle.code_machine_laws.specs.Reached.{IsReached}
 use Rattle.code_machine_laws.proofs.Reaching.{legs_reached}
 use Rattle.world_runs.specs.declared.made.Made.{Made}
 use Rattle.world_runs.specs.declared.made.Made.TheVariants as made
-use Rattle.world_runs.specs.Made.{made_of, HasMade}
+use Rattle.world_runs.specs.LegOrNone.{made_of, HasMade}
 use Rattle.world_runs.specs.Replay.{Replayed}
 
 module _ (g : CodeRun) (w : Entries (Local ℕ)) (n : ℕ) where

@@ -8,9 +8,9 @@ ghost use Rattle.code_world.specs.Tables.{IsWorld};
 ghost use Rattle.code_machine_laws.specs.Reached.{IsReached};
 ghost use Rattle.ready_queue.specs.Queue.{HasReady};
 ghost use Rattle.revision_machine.specs.Numbered.{World as DefinedWorld};
-ghost use Rattle.code_world.specs.Came.{run_under};
+ghost use Rattle.code_world.specs.LegOutcomes.{run_under};
 ghost use Rattle.world_runs.specs.Covers.{CoversWorld, CoversWorldBut};
-ghost use Rattle.world_runs.specs.Kept.{HasFinishedKeeping, HasLeastKeeping, HasTriedKeeping};
+ghost use Rattle.world_runs.specs.KeptByLegs.{HasFinishedKeeping, HasLeastKeeping, HasTriedKeeping};
 
 use crate::legs::Legs;
 use crate::made::{Made, sort_out};

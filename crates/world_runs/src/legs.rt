@@ -12,12 +12,12 @@ pub trait Legs {
     ghost use Rattle.block_run.specs.Area.{count};
     ghost use Rattle.code_machine.specs.Local.{CodeRun, Local};
     ghost use Rattle.code_world.specs.Answers.{LegAnswers};
-    ghost use Rattle.code_world.specs.Came.{run_under};
+    ghost use Rattle.code_world.specs.LegOutcomes.{run_under};
     ghost use Rattle.code_world.specs.Tables.{IsWorld};
     ghost use Rattle.code_world.specs.declared.world.World as rust;
     ghost use Rattle.code_machine_laws.specs.Reached.{IsReached};
     ghost use Rattle.revision_machine.specs.Numbered.{World as DefinedWorld};
-    ghost use Rattle.world_runs.specs.Kept.{KeepsOn};
+    ghost use Rattle.world_runs.specs.KeptByLegs.{KeepsOn};
 
     /// Why a run by such legs comes to no end.
     type Fault;

@@ -1,7 +1,7 @@
 //! Legs, or none.
 
 ghost use Rattle.std.specs.Prelude.{◌≡◌};
-ghost use Rattle.world_runs.specs.Made.{made_of};
+ghost use Rattle.world_runs.specs.LegOrNone.{made_of};
 
 use code_world::{LegAnswer, World};
 

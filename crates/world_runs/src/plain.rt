@@ -5,7 +5,7 @@ ghost use Rattle.rev_num.specs.Limits.{most_fuel};
 ghost use Rattle.fun_run.specs.Merging.{AreMergesOf};
 ghost use Rattle.block_run.specs.Area.{count};
 ghost use Rattle.code_machine.specs.Local.{Local};
-ghost use Rattle.code_world.specs.Came.{run_under};
+ghost use Rattle.code_world.specs.LegOutcomes.{run_under};
 ghost use Rattle.code_world.specs.Tables.{IsWorld};
 ghost use Rattle.code_machine_laws.specs.Reached.{IsReached};
 ghost use Rattle.revision_machine.specs.Numbered.{World as DefinedWorld};

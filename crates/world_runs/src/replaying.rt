@@ -8,8 +8,8 @@ ghost use Rattle.code_machine.specs.Local.{Local};
 ghost use Rattle.code_world.specs.Tables.{IsWorld};
 ghost use Rattle.code_machine_laws.specs.Reached.{IsReached};
 ghost use Rattle.revision_machine.specs.Numbered.{World as DefinedWorld};
-ghost use Rattle.code_world.specs.Came.{run_under};
-ghost use Rattle.world_runs.specs.Kept.{HasMadeKeeping, IsKeptFirst};
+ghost use Rattle.code_world.specs.LegOutcomes.{run_under};
+ghost use Rattle.world_runs.specs.KeptByLegs.{HasMadeKeeping, IsKeptFirst};
 ghost use Rattle.world_runs.specs.Replay.{IsIllegal, Replayed};
 
 use crate::legs::Legs;

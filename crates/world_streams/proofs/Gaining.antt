@@ -10,8 +10,8 @@ use Rattle.code_machine.specs.Machines.{numbered}
 use Rattle.code_machine.proofs.Changes.{decide}
 use Rattle.code_world.specs.declared.answer.LegAnswer.{LegAnswer}
 use Rattle.code_world.specs.declared.answer.LegAnswer.TheVariants as answer
-use Rattle.code_world.specs.declared.slot.Slot.{Slot}
-use Rattle.code_world.specs.declared.slot.Slot.TheVariants as slot
+use Rattle.code_world.specs.declared.slot.WorldSlot.{WorldSlot}
+use Rattle.code_world.specs.declared.slot.WorldSlot.TheVariants as slot
 use Rattle.code_world.specs.declared.table.Table.{Table}
 use Rattle.code_world.specs.declared.world.World as rust
 use Rattle.code_world.specs.declared.world.World.TheVariants as world
@@ -26,7 +26,7 @@ use Rattle.code_world.proofs.Saying.{runs_text, stands_text}
 use Rattle.code_world.proofs.Touching.{touches_stays}
 use Rattle.code_machine_laws.specs.Reached.{IsReached}
 use Rattle.code_machine_laws.proofs.Reaching.{legs_reached, main_stands}
-use Rattle.world_runs.specs.Made.{HasMade, made_of}
+use Rattle.world_runs.specs.LegOrNone.{HasMade, made_of}
 use Rattle.world_runs.proofs.Making.{makes}
 use Rattle.world_streams.proofs.Putting.{grows_by, grows_length}
 use Rattle.code_machine_laws.specs.Forms.{Grows, Says}
@@ -40,7 +40,7 @@ first_text t = slot_text (at_number t.slots.items 0)
 -- what a table has of `main` is what `main` has said in the world
 module _ (g : CodeRun) (t : Table) (w : Entries (Local ℕ)) (is : IsTable g t w) (l : Local ℕ)
     (there : at_number w 0 ≡ Some ([], Plain l)) where
-  has_said : (o : Option Slot) → at_number t.slots.items 0 ≡ o → HasSaid g l (slot_text o)
+  has_said : (o : Option WorldSlot) → at_number t.slots.items 0 ≡ o → HasSaid g l (slot_text o)
   has_said None e = none_some (sym (slot_none g t.slots.items w is.slots 0 e) ∙ there)
   has_said (Some (slot.Running r)) e =
       let k = running_at g t.slots.items w is.slots 0 r e in
@@ -66,10 +66,10 @@ module _ (g : CodeRun) (t : Table) (w : Entries (Local ℕ)) (is : IsTable g t w
   pub table_says : HasSaid g l (first_text t)
   table_says = has_said (at_number t.slots.items 0) refl
 
-  pub some_slot : (s : Slot) × (at_number t.slots.items 0 ≡ Some s)
+  pub some_slot : (s : WorldSlot) × (at_number t.slots.items 0 ≡ Some s)
   some_slot = by (at_number t.slots.items 0) refl
     where
-      by : (o : Option Slot) → at_number t.slots.items 0 ≡ o → (s : Slot) × (at_number t.slots.items 0 ≡ Some s)
+      by : (o : Option WorldSlot) → at_number t.slots.items 0 ≡ o → (s : WorldSlot) × (at_number t.slots.items 0 ≡ Some s)
       by None e = none_some (sym (slot_none g t.slots.items w is.slots 0 e) ∙ there)
       by (Some s) e = (s, e)
 
@@ -95,14 +95,14 @@ module _ (g : CodeRun) (ok : IsVerified g) (w : Entries (Local ℕ)) (h : IsReac
       → Grows (first_text t) (first_text t')
   others_same n apart t' stay = by (stay 0 slot_.0 (λ e. apart (sym e)) slot_.1)
     where
-      slot_ : (s : Slot) × (at_number t.slots.items 0 ≡ Some s)
+      slot_ : (s : WorldSlot) × (at_number t.slots.items 0 ≡ Some s)
       slot_ = some_slot g t w is local found
 
       by : StaysOrIsJoined slot_.0 (at_number t'.slots.items 0) → Grows (first_text t) (first_text t')
       by (inl z) = grows_same (first_text t) (first_text t') (ap slot_text slot_.1 ∙ ap slot_text (sym z))
       by (inr (v, e, z)) =
           grows_same (first_text t) (first_text t')
-          (ap slot_text slot_.1 ∙ ap (λ (s : Slot). slot_text (Some s)) e ∙ ap slot_text (sym z))
+          (ap slot_text slot_.1 ∙ ap (λ (s : WorldSlot). slot_text (Some s)) e ∙ ap slot_text (sym z))
 
   -- the world after the leg
   leaves_grow : (n : ℕ) (t' : Table) → OthersStay t.slots.items n t'.slots.items → (u : Entries (Local ℕ))

@@ -21,7 +21,7 @@ use Rattle.code_world.specs.declared.world.World.TheVariants as world
 use Rattle.code_world.specs.Said.{main_text}
 use Rattle.code_world.specs.Tables.{IsWorld}
 use Rattle.code_machine_laws.specs.Reached.{IsReached}
-use Rattle.world_runs.specs.Kept.{KeepsOn}
+use Rattle.world_runs.specs.KeptByLegs.{KeepsOn}
 use Rattle.world_runs.proofs.Keeping.{keeps_so, led_to, on_way}
 use Rattle.world_streams.specs.declared.fault.StreamFault.{StreamFault}
 use Rattle.world_streams.specs.declared.fault.StreamFault.TheVariants as fault

@@ -1,7 +1,7 @@
 -- Answers of never_laws: the code of a program that never joins twice never does, and the affine rule keeps from it.
 use Rattle.revision_calculus.proofs.FunKinds.{rules_kept}
-use Rattle.rev_affine.proofs.Freedom.{never_twice}
-use Rattle.rev_affine.proofs.Paths.{affine_once}
+use Rattle.affine_check.proofs.Freedom.{never_twice}
+use Rattle.affine_check.proofs.Paths.{affine_once}
 use Rattle.affine_code.proofs.Simulated.{code_of_never}
 use Rattle.affine_code.proofs.never_laws.Goals as goal
 

@@ -1,6 +1,6 @@
 -- Answers of rev_main: what happened in the call, and what it took of its source, are enough for each clause.
 use Rattle.rev_top.proofs.Accepting.{accepted}
-use Rattle.rev_top.proofs.Kept.{keeps}
+use Rattle.rev_top.proofs.PromisesKept.{keeps}
 use Rattle.rev_top.proofs.Rans.{ran_says}
 use Rattle.rev_top.proofs.rev_main.Goals as goal
 

@@ -8,7 +8,7 @@ ghost use Rattle.segment_store.specs.Store.{hands_right, parts_left, gathers};
 ghost use Rattle.segment_store.specs.Base.{IsLaid};
 ghost use Rattle.segment_store.specs.Same.{IsSameSeat, Becomes, IsWord};
 
-use crate::board::View;
+use crate::board::SegmentView;
 use crate::plays::{
     Adopt, Claim, Find, Gather, HandOn, Look, Part, Publish, Release, See, Share, Tally, Witness,
     Write,

@@ -2,7 +2,7 @@
 use Rattle.std.proofs.Common.{◌≡◌, ◌≤◌, ◌&&◌, ◌||◌, drop, None, take, length}
 use Rattle.rev_syntax.specs.View.{stmts, arms}
 use Rattle.rev_kinds.specs.Walk.{names_of}
-use Rattle.rev_affine.specs.Live.{passes, arms_pass}
+use Rattle.affine_check.specs.Live.{passes, arms_pass}
 use Rattle.affine_check.specs.Walk as rule
 use Rattle.affine_check.proofs.checker.+statements.Given as goal
 

@@ -4,9 +4,9 @@ use Rattle.rev_syntax.specs.Trees.{ProgramTree}
 use Rattle.rev_syntax.specs.View.{program as whole}
 use Rattle.revision_calculus.specs.Kinded.{IsAccepted}
 use Rattle.revision_calculus.proofs.FunKinds.{rules_kept}
-use Rattle.rev_affine.specs.Affine.{IsAffine}
-use Rattle.rev_affine.proofs.Paths.{affine_once}
-use Rattle.rev_affine.proofs.Freedom.{never_twice}
+use Rattle.affine_check.specs.Affine.{IsAffine}
+use Rattle.affine_check.proofs.Paths.{affine_once}
+use Rattle.affine_check.proofs.Freedom.{never_twice}
 use Rattle.rev_types.specs.declared.typed.Typed.{Typed}
 use Rattle.affine_check.proofs.Decided.{keeps, refused}
 use Rattle.affine_check.proofs.checker.affine.Goals as goal

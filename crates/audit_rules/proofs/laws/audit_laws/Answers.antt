@@ -1,7 +1,7 @@
 -- Answers of audit_laws: the laws of audits by a map of parts are read for lists, where a part is found by its path.
-use Rattle.audit_rules.proofs.Listed.{end_has_trace}
+use Rattle.audit_rules.proofs.FinalTraces.{end_has_trace}
 use Rattle.audit_rules.proofs.OwnRuns.{own_runs_fit}
-use Rattle.audit_rules.proofs.Traced.{each_is_computed, has_verdict, trace_has_yes, verdict_is_one, yes_tells}
+use Rattle.audit_rules.proofs.TracesAsParts.{each_is_computed, has_verdict, trace_has_yes, verdict_is_one, yes_tells}
 use Rattle.audit_rules.proofs.laws.audit_laws.Goals as goal
 
 pub returns-clause-yes : goal.returns-clause-yes

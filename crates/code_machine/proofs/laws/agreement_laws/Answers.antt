@@ -4,7 +4,7 @@ use Rattle.revision_machine.proofs.Legs.{leg_law}
 use Rattle.code_machine.specs.Machines.{machine, numbered, Holds, start_in}
 use Rattle.code_machine.specs.Renamed.{IsNumbered}
 use Rattle.code_machine.proofs.Holding.{holding}
-use Rattle.code_machine.proofs.Meeting.{counts, named_counts}
+use Rattle.code_machine.proofs.MachineConditions.{counts, named_counts}
 use Rattle.code_machine.proofs.Numbering.{simulates, first_none, first_numbered}
 use Rattle.code_machine.proofs.laws.agreement_laws.Goals as goal
 

@@ -1,6 +1,6 @@
 -- Answers of condition_laws: each condition on counts, handles, weight and simulation is proved by instructions.
 use Rattle.code_machine.proofs.Holding.{holding}
-use Rattle.code_machine.proofs.Meeting.{counts, spends, pays}
+use Rattle.code_machine.proofs.MachineConditions.{counts, spends, pays}
 use Rattle.code_machine.proofs.Numbering.{simulates}
 use Rattle.code_machine.proofs.laws.condition_laws.Goals as goal
 

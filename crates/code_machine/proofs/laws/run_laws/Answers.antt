@@ -6,7 +6,7 @@ use Rattle.revision_machine.proofs.Completion.{completion_law}
 use Rattle.code_machine.specs.Machines.{machine, Holds, start_in}
 use Rattle.code_machine.specs.Weights.{weight}
 use Rattle.code_machine.proofs.Holding.{holding}
-use Rattle.code_machine.proofs.Meeting.{counts, spends}
+use Rattle.code_machine.proofs.MachineConditions.{counts, spends}
 use Rattle.code_machine.proofs.Numbering.{first_none}
 use Rattle.code_machine.proofs.Starting.{run_bound, run_count}
 use Rattle.code_machine.proofs.Fuel.{fuel_spent}

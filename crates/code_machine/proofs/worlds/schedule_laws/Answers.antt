@@ -3,7 +3,7 @@ use Rattle.std.proofs.Common.{◌+◌, ◌*◌}
 use Rattle.revision_machine.proofs.Schedules.{schedule_law, run_is_schedule, over_law}
 use Rattle.revision_machine.proofs.ByNumber.{schedule_completes, least_completes}
 use Rattle.code_machine.specs.Machines.{numbered, start_in}
-use Rattle.code_machine.proofs.Meeting.{named_counts, named_spends, named_pays}
+use Rattle.code_machine.proofs.MachineConditions.{named_counts, named_spends, named_pays}
 use Rattle.code_machine.proofs.Starting.{entry_bound, revision_count}
 use Rattle.code_machine.proofs.Fuel.{fuel_of_start}
 use Rattle.code_machine.proofs.worlds.schedule_laws.Goals as goal

@@ -1,6 +1,6 @@
 -- Answers of complete: the world is reached, so finishing it gives a complete schedule, whose outcome is taken.
 use Rattle.rev_vm.specs.Starts.{run_under}
-use Rattle.code_runs.proofs.Underway.{is_after, reached}
+use Rattle.code_runs.proofs.WorldsAndRuns.{is_after, reached}
 use Rattle.code_runs.proofs.running.complete.Goals as goal
 
 pub finish-requires-clause-reached : goal.finish-requires-clause-reached

@@ -7,7 +7,7 @@ use Rattle.world_runs.specs.Replay.{IsIllegal}
 use Rattle.world_runs.specs.declared.replaying.ReplayFault.{ReplayFault}
 use Rattle.world_runs.proofs.Making.{merges_still}
 use Rattle.code_runs.specs.Schedules.{IsLegal}
-use Rattle.code_runs.proofs.Underway.{handed_on, of_run, replayed_to}
+use Rattle.code_runs.proofs.WorldsAndRuns.{handed_on, of_run, replayed_to}
 use Rattle.code_runs.proofs.running.replay_code.Goals as goal
 
 pub new-requires-clause-inputs : goal.new-requires-clause-inputs

@@ -3,7 +3,7 @@ use Rattle.std.proofs.Common.{◌∙◌, sym}
 use Rattle.code_machine.specs.Local.{CodeRun}
 use Rattle.code_machine_laws.specs.Outcomes.{HasOutcome}
 use Rattle.rev_vm.specs.Starts.{run_under}
-use Rattle.code_runs.proofs.Underway.{begun, of_run}
+use Rattle.code_runs.proofs.WorldsAndRuns.{begun, of_run}
 use Rattle.code_runs.proofs.running.run_code.Goals as goal
 
 pub new-requires-clause-inputs : goal.new-requires-clause-inputs

@@ -1,7 +1,7 @@
 -- Answers of part_noted: the notes hold an end, so the part is made of that end and the noted forks and joins.
 use Rattle.std.proofs.Common.{◌∙◌, sym}
 use Rattle.code_world.proofs.Rows.{none_some, some_same}
-use Rattle.code_traces.specs.Made.{noted_part}
+use Rattle.code_traces.specs.NotedParts.{noted_part}
 use Rattle.code_traces.proofs.listing.part_noted.Goals as goal
 
 pub part_of-requires : goal.part_of-requires

@@ -7,7 +7,7 @@ use Rattle.rev_code.specs.declared.code.Code.{Code}
 use Rattle.code_soundness.specs.Typed.{location_kinds}
 use Rattle.revision_machine.specs.Numbered.{paths_of}
 use Rattle.code_traces.specs.Parts.{places}
-use Rattle.code_traces.specs.Made.{noted_part, world_parts}
+use Rattle.code_traces.specs.NotedParts.{noted_part, world_parts}
 use Rattle.code_traces.proofs.Making.{is_the_part, last_of, none_left, none_yet, one_more}
 use Rattle.code_traces.proofs.listing.parts_of.Goals as goal
 use Rattle.code_world.proofs.Rows.{more_length}

@@ -6,7 +6,7 @@ use Rattle.code_machine.specs.Machines.{numbered, start_in}
 use Rattle.code_machine_laws.proofs.Reaching.{start_reached}
 use Rattle.rev_vm.specs.Starts.{run_under}
 use Rattle.code_machine_laws.specs.Outcomes.{HasOutcome}
-use Rattle.code_runs.proofs.Underway.{of_run}
+use Rattle.code_runs.proofs.WorldsAndRuns.{of_run}
 use Rattle.code_traces.proofs.Tracing.{noted_after, trace_of_run}
 use Rattle.code_traces.proofs.running.trace_code.Goals as goal
 

@@ -1,6 +1,6 @@
 -- Answers of begin: where a kind is wanted and none is on the stack, the stack does not begin so.
 use Rattle.std.proofs.Common.{◌∙◌, sym}
-use Rattle.code_verifier.specs.Kept.{shape_at}
+use Rattle.code_verifier.specs.ShapesByNumber.{shape_at}
 use Rattle.code_verifier.proofs.Stacks.{no_more}
 use Rattle.code_verifier.proofs.stack.begin.Goals as goal
 

@@ -1,7 +1,7 @@
 -- Loops of begin: whether the stack begins with all kinds is whether the rest begins with the kinds left.
 use Rattle.std.proofs.Common.{◌≡◌, ◌<◌, drop, length}
 use Rattle.code_rules.specs.Shapes.{begins}
-use Rattle.code_verifier.specs.Kept.{shape_at}
+use Rattle.code_verifier.specs.ShapesByNumber.{shape_at}
 use Rattle.code_verifier.proofs.stack.begin.Given as goal
 
 abbrev pub invariant-loop-kind : goal.invariant-loop-kind

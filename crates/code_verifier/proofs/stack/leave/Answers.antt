@@ -1,6 +1,6 @@
 -- Answers of leave: the shape below the one reached has one kind more left out.
 use Rattle.std.proofs.Common.{◌∙◌, ap}
-use Rattle.code_verifier.specs.Kept.{rest, shape_at}
+use Rattle.code_verifier.specs.ShapesByNumber.{rest, shape_at}
 use Rattle.code_verifier.proofs.Stacks.{drop_rest}
 use Rattle.code_verifier.proofs.stack.leave.Goals as goal
 

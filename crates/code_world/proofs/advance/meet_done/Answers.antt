@@ -2,7 +2,7 @@
 use Rattle.std.proofs.Common.{◌∙◌, refl, sym, subst}
 use Rattle.code_machine.specs.Local.{end_of}
 use Rattle.rev_vm.specs.Meaning.{IsEnd}
-use Rattle.code_world.specs.Came.{meets}
+use Rattle.code_world.specs.LegOutcomes.{meets}
 use Rattle.code_world.proofs.Coming.{is_claimed, fuels_fit, meets_is}
 use Rattle.code_world.proofs.advance.meet_done.Goals as goal
 

@@ -3,7 +3,7 @@ use Rattle.std.proofs.Common.{◌∙◌, true, false, sym, subst}
 use Rattle.code_machine.specs.Local.{end_of}
 use Rattle.rev_vm.specs.Meaning.{IsEnd}
 use Rattle.rev_code.specs.Events as events
-use Rattle.code_world.specs.Came.{meets}
+use Rattle.code_world.specs.LegOutcomes.{meets}
 use Rattle.code_world.proofs.Coming.{inherits, is_trapped}
 use Rattle.code_world.proofs.advance.meet_trapped.Goals as goal
 

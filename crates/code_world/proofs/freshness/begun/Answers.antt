@@ -1,7 +1,7 @@
 -- `begun`: with what a fresh runner began.
 use Rattle.std.proofs.Common.{◌∙◌, ap, sym, subst}
 use Rattle.rev_code.specs.State.{State}
-use Rattle.plain_words.specs.Agreement.{AreWords}
+use Rattle.block_run.specs.Agreement.{AreWords}
 use Rattle.rev_vm.specs.Starts.{run_under}
 use Rattle.code_world.proofs.freshness.begun.Goals as goal
 

@@ -2,7 +2,7 @@
 use Rattle.std.proofs.Common.{◌≡◌, ◌<◌, ℕ, Some}
 use Rattle.std.specs.Prelude.{slice_get}
 use Rattle.rev_code.specs.declared.code.Instr.{Instr}
-use Rattle.plain_words.specs.Agreement.{PushesInt}
+use Rattle.block_run.specs.Agreement.{PushesInt}
 use Rattle.fun_run.proofs.numbers.note_block.Given as goal
 
 -- the numbers so far have 64 bits

@@ -3,7 +3,7 @@ use Rattle.std.proofs.Common.{◌≡◌, ◌<◌, ℕ, Some}
 use Rattle.std.specs.Prelude.{slice_get}
 use Rattle.rev_code.specs.declared.code.CodeBlock.{CodeBlock}
 use Rattle.rev_code.specs.declared.code.Instr.{Instr}
-use Rattle.plain_words.specs.Agreement.{PushesInt}
+use Rattle.block_run.specs.Agreement.{PushesInt}
 use Rattle.fun_run.proofs.numbers.note_numbers.Given as goal
 
 -- the numbers in the blocks so far have 64 bits

@@ -1,6 +1,6 @@
 -- Answers of step_joinee: a leg that ends the joinee is the end of its pass.
 use Rattle.std.proofs.Common.{rules}
-use Rattle.hub_workers.specs.declared.legs.Event.TheVariants as event
+use Rattle.hub_workers.specs.declared.legs.LegEvent.TheVariants as event
 use Rattle.hub_workers.specs.Legs.{Comes}
 use Rattle.hub_workers.proofs.Owing.{leg_ends}
 use Rattle.hub_workers.proofs.staying.step_joinee.Goals as goal

@@ -1,6 +1,6 @@
 -- Answers of step_owing: the leg of a joiner that has taken an end in begins in a state that a schedule leads to.
 use Rattle.std.proofs.Common.{rules, inr}
-use Rattle.hub_workers.specs.declared.legs.Event.TheVariants as event
+use Rattle.hub_workers.specs.declared.legs.LegEvent.TheVariants as event
 use Rattle.hub_workers.specs.Legs.{Comes}
 use Rattle.hub_workers.proofs.Owing.{reached_owing}
 use Rattle.hub_workers.proofs.staying.step_owing.Goals as goal

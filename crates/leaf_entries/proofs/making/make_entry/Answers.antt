@@ -4,7 +4,7 @@ use Rattle.revision_machine.specs.Numbered.{or_path, path_in}
 use Rattle.version_map.specs.Deltas.{at}
 use Rattle.rev_vm.specs.Starts.{run_under}
 use Rattle.leaf_entries.specs.Words.{HasGiven, args_of, count_of, written_of}
-use Rattle.leaf_entries.proofs.Made.{made_stands, read_same}
+use Rattle.leaf_entries.proofs.EntryOfLeaf.{made_stands, read_same}
 use Rattle.leaf_entries.proofs.Words.{args_room, args_there}
 use Rattle.leaf_entries.proofs.making.make_entry.Goals as goal
 

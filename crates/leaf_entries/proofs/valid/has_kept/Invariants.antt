@@ -4,7 +4,7 @@ use Rattle.std.specs.Prelude.{slice_get}
 use Rattle.rev_num.specs.Path.{Path}
 use Rattle.code_world.specs.Endings.{Names}
 use Rattle.code_runs.specs.Births.{path_in}
-use Rattle.leaf_entries.specs.declared.entry.Kept.{Kept}
+use Rattle.leaf_entries.specs.declared.entry.KeptValue.{KeptValue}
 use Rattle.leaf_entries.specs.Words.{IsHere}
 use Rattle.leaf_entries.proofs.valid.has_kept.Given as goal
 
@@ -12,4 +12,4 @@ use Rattle.leaf_entries.proofs.valid.has_kept.Given as goal
 abbrev pub invariant-loop-one : goal.invariant-loop-one
 invariant-loop-one l =
     (paths : List Path) → Names l.births paths
-    → (i : ℕ) (x : Kept) → i < l.one-index → slice_get l.read i ≡ Some x → IsHere (path_in paths) l.variables l.base x
+    → (i : ℕ) (x : KeptValue) → i < l.one-index → slice_get l.read i ≡ Some x → IsHere (path_in paths) l.variables l.base x

@@ -8,7 +8,7 @@ use Rattle.rev_audit.specs.Alone.{JoinsAwaited}
 use Rattle.audit_rules.specs.Audited.{made, joined_twice, missing}
 use Rattle.audit_rules.specs.Parts.{joined_by}
 use Rattle.audit_rules.specs.Traces.{paths_of}
-use Rattle.audit_rules.proofs.Total.{left}
+use Rattle.audit_rules.proofs.PartsExist.{left}
 use Rattle.rev_audit.specs.Own.{BeginsAt, ComesTo, IsJoinee, StopsAt}
 use Rattle.rev_audit.specs.Tables.{IsSetOf}
 use Rattle.rev_audit.proofs.Accepted.{accepted}

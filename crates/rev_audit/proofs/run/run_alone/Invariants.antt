@@ -2,7 +2,7 @@
 use Rattle.std.proofs.Common.{◌≡◌}
 use Rattle.revision_state.specs.Views.{given}
 use Rattle.audit_rules.specs.Parts.{joined_by}
-use Rattle.audit_rules.proofs.Total.{left}
+use Rattle.audit_rules.proofs.PartsExist.{left}
 use Rattle.rev_audit.specs.Own.{IsUnderWay}
 use Rattle.audit_rules.specs.Traces.{paths_of}
 use Rattle.rev_audit.specs.Tables.{IsSetOf}

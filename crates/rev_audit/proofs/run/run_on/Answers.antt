@@ -2,7 +2,7 @@
 use Rattle.std.proofs.Common.{◌≡◌, ◌+◌, ◌<◌, ◌≤◌, ◌∙◌, ap, arith, refl, subst, sym}
 use Rattle.rev_num.specs.Path.{child}
 use Rattle.revision_machine.specs.Machine.{Moves, Forks}
-use Rattle.revision_calculus.specs.Held.{weight}
+use Rattle.revision_calculus.specs.HandlesHeld.{weight}
 use Rattle.revision_calculus.specs.Step.{next}
 use Rattle.revision_state.specs.Views.{given}
 use Rattle.rev_audit.specs.Alone.{NamesChild, alone_event}

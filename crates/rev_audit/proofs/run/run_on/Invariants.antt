@@ -1,6 +1,6 @@
 -- Loops of run_on: the run is under way at the path where it began, and it has joined what it had joined at first.
 use Rattle.std.proofs.Common.{◌≡◌}
-use Rattle.revision_calculus.specs.Held.{weight}
+use Rattle.revision_calculus.specs.HandlesHeld.{weight}
 use Rattle.revision_state.specs.Views.{given}
 use Rattle.audit_rules.specs.Parts.{joined_by}
 use Rattle.rev_audit.specs.Own.{IsUnderWay}

@@ -4,8 +4,8 @@ use Rattle.std.proofs.lemmas.Grind.{common_steps}
 use Rattle.std.proofs.lemmas.List.{map-append}
 use Rattle.rev_syntax.specs.Trees.{placed, unary as unary_expression}
 use Rattle.rev_syntax.specs.View as view
-use Rattle.token_grammar.specs.Outcome.{Outcome, Read, and_then, next}
-use Rattle.token_grammar.specs.Reader.{is_next}
+use Rattle.rev_expressions.specs.Outcome.{Outcome, Read, and_then, next}
+use Rattle.rev_expressions.specs.Reader.{is_next}
 use Rattle.rev_syntax.specs.declared.token.Fixed.TheVariants as s
 use Rattle.rev_syntax.specs.declared.token.TokenKind.TheVariants as k
 use Rattle.rev_expressions.specs.Grammar as spec

@@ -1,7 +1,7 @@
 -- Answers of constant: behind a minus the tokens still have no negative number, so the number may be negated.
 use Rattle.std.proofs.Common.{◌≡◌, Some, sym, subst, arith, rules}
 use Rattle.std.proofs.lemmas.Grind.{common_steps}
-use Rattle.token_grammar.specs.Outcome.{next}
+use Rattle.rev_expressions.specs.Outcome.{next}
 use Rattle.rev_parse.specs.Pieces.{AreNatural}
 use Rattle.rev_parse.proofs.DeclarationRules.{constant_minus}
 use Rattle.rev_parse.proofs.Naturals.{natural_after}

@@ -1,7 +1,7 @@
 -- Answers of declaration: the first token decides which declaration it is, and behind it no number is negative.
 use Rattle.std.proofs.Common.{◌≡◌, Some, None, sym, subst, arith, rules}
 use Rattle.std.proofs.lemmas.Grind.{common_steps}
-use Rattle.token_grammar.specs.Outcome.{next}
+use Rattle.rev_expressions.specs.Outcome.{next}
 use Rattle.rev_parse.specs.Pieces.{AreNatural}
 use Rattle.rev_parse.proofs.DeclarationRules.{declaration_fun, declaration_merge, declaration_versioned, declaration_cumulative, declaration_proc, declaration_else, declaration_end}
 use Rattle.rev_parse.proofs.Naturals.{natural_after}

@@ -3,7 +3,7 @@ use Rattle.std.proofs.Common.{◌≡◌, ◌≤ℤ◌, pos, Some, arith, rules}
 use Rattle.std.proofs.lemmas.Int.{ints}
 use mir.Syntax.{w64}
 use mir.Val.{SFits}
-use Rattle.token_grammar.specs.Outcome.{next}
+use Rattle.rev_expressions.specs.Outcome.{next}
 use Rattle.rev_parse.proofs.Naturals.{natural_number}
 use Rattle.rev_parse.proofs.declaration.negative.Goals as goal
 

@@ -1,7 +1,7 @@
 -- Answers of size: behind an open bracket a level is taken, and the cells or their refusal are the size's.
 use Rattle.std.proofs.Common.{◌≡◌, [], true, arith, rules}
 use Rattle.std.proofs.lemmas.Grind.{common_steps}
-use Rattle.token_grammar.specs.Reader.{is_next}
+use Rattle.rev_expressions.specs.Reader.{is_next}
 use Rattle.rev_syntax.specs.declared.token.Fixed.TheVariants as s
 use Rattle.rev_expressions.specs.Grammar.{alphabet}
 use Rattle.rev_parse.proofs.DeclarationRules.{size_go}

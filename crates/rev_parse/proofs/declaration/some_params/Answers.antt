@@ -1,7 +1,7 @@
 -- Answers of some_params: the next token tells by a name whether the list has a first parameter or none.
 use Rattle.std.proofs.Common.{◌≡◌, true, false, arith, rules}
 use Rattle.std.proofs.lemmas.Grind.{common_steps}
-use Rattle.token_grammar.specs.Reader.{is_next}
+use Rattle.rev_expressions.specs.Reader.{is_next}
 use Rattle.rev_expressions.specs.Grammar.{alphabet}
 use Rattle.rev_parse.proofs.DeclarationRules.{params_no, params_yes}
 use Rattle.rev_parse.proofs.declaration.some_params.Goals as goal

@@ -3,8 +3,8 @@ use Rattle.std.proofs.Common.{◌≡◌, ◌+◌, ◌-◌, ◌∙◌, true, fals
 use Rattle.std.proofs.lemmas.Grind.{common_steps}
 use Rattle.std.proofs.lemmas.List.{map-append}
 use Rattle.rev_syntax.specs.View as view
-use Rattle.token_grammar.specs.Outcome.{after, next}
-use Rattle.token_grammar.specs.Reader.{begins, is_next}
+use Rattle.rev_expressions.specs.Outcome.{after, next}
+use Rattle.rev_expressions.specs.Reader.{begins, is_next}
 use Rattle.rev_syntax.specs.declared.token.Fixed.TheVariants as s
 use Rattle.rev_expressions.specs.Grammar as spec
 use Rattle.rev_expressions.specs.Statements as st

@@ -1,7 +1,7 @@
 -- Answers of actual: without an open parenthesis there is no list, and behind one are arguments, a level deeper.
 use Rattle.std.proofs.Common.{◌≡◌, ◌∙◌, true, false, arith, rules}
 use Rattle.std.proofs.lemmas.Grind.{common_steps}
-use Rattle.token_grammar.specs.Reader.{is_next}
+use Rattle.rev_expressions.specs.Reader.{is_next}
 use Rattle.rev_syntax.specs.declared.token.Fixed.TheVariants as s
 use Rattle.rev_expressions.specs.Grammar as spec
 use Rattle.rev_parse.proofs.StatementRules as rule

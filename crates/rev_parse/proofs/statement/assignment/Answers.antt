@@ -2,7 +2,7 @@
 use Rattle.std.proofs.Common.{◌≡◌, Some, None, arith, rules}
 use Rattle.std.proofs.lemmas.Grind.{common_steps}
 use Rattle.rev_syntax.specs.View as view
-use Rattle.token_grammar.specs.Outcome.{next}
+use Rattle.rev_expressions.specs.Outcome.{next}
 use Rattle.rev_parse.proofs.StatementRules as rule
 use Rattle.rev_parse.proofs.statement.assignment.Goals.{in_default-kind-via-in-Fixed+in_default, in_default-kind-via-in_default}
 use Rattle.rev_syntax.specs.declared.token.TokenKind.TheVariants as k

@@ -1,7 +1,7 @@
 -- Answers of item: a text is an item by itself, and any other token begins a value.
 use Rattle.std.proofs.Common.{◌≡◌, Some, None, arith, rules}
 use Rattle.std.proofs.lemmas.Grind.{common_steps}
-use Rattle.token_grammar.specs.Outcome.{next}
+use Rattle.rev_expressions.specs.Outcome.{next}
 use Rattle.rev_parse.proofs.StatementRules as rule
 use Rattle.rev_parse.proofs.statement.item.Goals as goal
 

@@ -1,7 +1,7 @@
 -- Answers of right_side: the first token tells call, fork and try from a plain one, with the same refusals.
 use Rattle.std.proofs.Common.{◌≡◌, Some, None, arith, rules}
 use Rattle.std.proofs.lemmas.Grind.{common_steps}
-use Rattle.token_grammar.specs.Outcome.{next}
+use Rattle.rev_expressions.specs.Outcome.{next}
 use Rattle.rev_parse.proofs.StatementRules as rule
 use Rattle.rev_parse.proofs.statement.right_side.Goals.{in_default-kind-via-in-Fixed+in_default, in_default-kind-via-in_default}
 use Rattle.rev_syntax.specs.declared.token.TokenKind.TheVariants as k

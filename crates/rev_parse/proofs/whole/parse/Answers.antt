@@ -1,6 +1,6 @@
 -- Answers of parse: a program with no token left is the text's, and tokens left or a refusal are its fault.
 use Rattle.std.proofs.Common.{◌≡◌, Err, arith, rules}
-use Rattle.rev_expressions.specs.declared.cursor.Fault.TheVariants as f
+use Rattle.rev_expressions.specs.declared.cursor.TreeFault.TheVariants as f
 use Rattle.rev_parse.proofs.Naturals.{natural_tokens}
 use Rattle.rev_parse.proofs.OfAnswer.{ok_only, ok_more, err_unexpected, err_too_deep}
 use Rattle.rev_parse.proofs.whole.parse.Goals as goal

@@ -4,7 +4,7 @@ use Rattle.block_run.proofs.Tables.{few_locations}
 use Rattle.code_soundness.proofs.Accepting.{no_fault_accepted}
 use Rattle.code_machine_laws.specs.Reached.{IsReached}
 use Rattle.code_world.specs.Tables.{IsWorld}
-use Rattle.world_runs.specs.Kept.{KeepsOn}
+use Rattle.world_runs.specs.KeptByLegs.{KeepsOn}
 use Rattle.rev_vm.specs.Starts.{run_under}
 use Rattle.rev_record.specs.Legs.{IsRecorded, IsFrom}
 use Rattle.rev_record.proofs.Legs.{fresh_live, base_many}

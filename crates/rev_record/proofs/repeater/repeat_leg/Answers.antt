@@ -3,7 +3,7 @@ use Rattle.std.proofs.Common.{◌+◌, sym, subst, refl, arith}
 use Rattle.code_machine_laws.specs.Reached.{IsReached}
 use Rattle.code_world.specs.Answers.{LegAnswers}
 use Rattle.code_world.specs.Tables.{IsWorld}
-use Rattle.world_runs.specs.Kept.{KeepsOn}
+use Rattle.world_runs.specs.KeptByLegs.{KeepsOn}
 use Rattle.rev_vm.specs.Starts.{run_under}
 use Rattle.rev_record.specs.Legs.{IsRepeated}
 use Rattle.rev_record.proofs.Legs.{fresh_live}

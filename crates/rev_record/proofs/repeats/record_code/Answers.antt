@@ -3,7 +3,7 @@ use Rattle.std.proofs.Common.{◌∙◌, ◌<◌, ◌^◌, sym, subst, List, len
 use Rattle.std.specs.Prelude.{ℤ}
 use Rattle.code_machine.specs.Local.{CodeRun}
 use Rattle.rev_vm.specs.Starts.{run_under}
-use Rattle.code_runs.proofs.Underway.{of_run}
+use Rattle.code_runs.proofs.WorldsAndRuns.{of_run}
 use Rattle.rev_record.specs.Memos.{IsMemoOf}
 use Rattle.rev_record.proofs.repeats.record_code.Goals as goal
 

@@ -4,7 +4,7 @@ use Rattle.code_machine.specs.Local.{CodeRun}
 use Rattle.code_machine_laws.specs.Outcomes.{HasOutcome}
 use Rattle.rev_code.specs.declared.code.Code.{Code}
 use Rattle.rev_vm.specs.Starts.{run_under}
-use Rattle.code_runs.proofs.Underway.{of_run}
+use Rattle.code_runs.proofs.WorldsAndRuns.{of_run}
 use Rattle.rev_record.specs.Memos.{HasEntries, Reuses}
 use Rattle.rev_record.proofs.repeats.repeat_code.Goals as goal
 

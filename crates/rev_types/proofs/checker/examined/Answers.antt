@@ -5,7 +5,7 @@ use Rattle.merge_decl.proofs.Leasts.{first_is, none_is}
 use Rattle.rev_kinds.specs.Faults.{place, rank}
 use Rattle.rev_types.specs.Program.{faults}
 use Rattle.rev_types.proofs.Accepting.{not_typed}
-use Rattle.rev_types.proofs.Gather.{first_of_faults}
+use Rattle.rev_types.proofs.FirstOfFaults.{first_of_faults}
 use Rattle.rev_types.proofs.checker.examined.Goals as goal
 
 pub returns-in-Some-clause-err : goal.returns-in-Some-clause-err

@@ -4,7 +4,7 @@ use denote.Param.Object.{Vt, ghosts_of}
 use Rattle.fun_run.proofs.merges.BlockMerges.TheSendSync as blocks
 use Rattle.rev_workers.specs.contracts.threads.run_planned.dyn-1 as one
 use Rattle.rev_workers.specs.contracts.threads.run_planned.dyn-2 as two
-use Rattle.rev_workers.proofs.Crossing.{merges_send, merges_sync}
+use Rattle.rev_workers.proofs.SharedMerges.{merges_send, merges_sync}
 use Rattle.rev_workers.proofs.threads.run_planned.Goals as goal
 
 pub run_over-requires-send-M : goal.run_over-requires-send-M

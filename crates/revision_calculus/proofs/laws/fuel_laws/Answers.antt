@@ -4,7 +4,7 @@ use Rattle.std.proofs.Common.{arith}
 use Rattle.revision_machine.proofs.Census.{spending_law, bound_law, count_law, count_up}
 use Rattle.revision_machine.proofs.Completion.{completion_law}
 use Rattle.revision_calculus.specs.Calculus.{calculus, main}
-use Rattle.revision_calculus.specs.Held.{weight}
+use Rattle.revision_calculus.specs.HandlesHeld.{weight}
 use Rattle.revision_calculus.proofs.Meets.{counts, spends_fuel, spends_forks, pays_forks, spends_weight, main_weight}
 use Rattle.revision_calculus.proofs.Tight.{takes}
 use Rattle.revision_calculus.proofs.laws.fuel_laws.Goals as goal

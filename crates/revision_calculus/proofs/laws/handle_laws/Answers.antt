@@ -3,7 +3,7 @@ use Rattle.revision_machine.proofs.Standing.{standing_law}
 use Rattle.revision_machine.proofs.Ends.{reached_forked}
 use Rattle.revision_machine.proofs.Blocked.{handle_law, no_blocked_end}
 use Rattle.revision_calculus.specs.Calculus.{calculus, main}
-use Rattle.revision_calculus.specs.Held.{Holds}
+use Rattle.revision_calculus.specs.HandlesHeld.{Holds}
 use Rattle.revision_calculus.proofs.Meets.{counts, handles, main_holds_none}
 use Rattle.revision_calculus.proofs.laws.handle_laws.Goals as goal
 

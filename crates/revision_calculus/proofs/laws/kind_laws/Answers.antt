@@ -1,5 +1,5 @@
 -- Answers of kind_laws: main begins with values of their kinds and each step keeps them; the rest are lemmas.
-use Rattle.revision_machine.proofs.Kept.{kept_law}
+use Rattle.revision_machine.proofs.KeptByEvents.{kept_law}
 use Rattle.revision_calculus.specs.Calculus.{calculus, main}
 use Rattle.revision_calculus.specs.Kinded.{IsKinded}
 use Rattle.revision_calculus.proofs.StepKinds.{value_law, kind_kept, main_kinded, join_law}

@@ -6,7 +6,7 @@ use Rattle.revision_machine.specs.Numbered.{machine_by}
 use Rattle.revision_machine.specs.Theory as theory
 use Rattle.revision_machine.specs.Theory.{Simulation}
 use Rattle.revision_machine.proofs.Ends.{unique_end}
-use Rattle.revision_machine.proofs.Lift.{step_law, run_law}
+use Rattle.revision_machine.proofs.SimulatedRuns.{step_law, run_law}
 use Rattle.revision_machine.proofs.Converse.{unblocked_law, complete_law, same_end}
 use Rattle.revision_machine.proofs.Schedules.{schedule_agrees, complete_schedule_agrees}
 use Rattle.revision_machine.proofs.Legs.{leg_law}

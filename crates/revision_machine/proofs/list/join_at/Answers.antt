@@ -4,7 +4,7 @@ use Rattle.std.proofs.lemmas.Bool.{true≢false}
 use Rattle.revision_machine.specs.Machine.{Joins, Ended}
 use Rattle.revision_machine.specs.Rules.{machine_of}
 use Rattle.revision_machine.specs.ListStep.{JoinsPlace, NextIs}
-use Rattle.revision_machine.specs.declared.state.Revision.{Revision}
+use Rattle.revision_machine.specs.declared.state.RevisionRow.{RevisionRow}
 use Rattle.revision_machine.proofs.PathIndex.{found_at, not_found}
 use Rattle.revision_machine.proofs.Steps.{same_read}
 use Rattle.revision_machine.proofs.Joins.{at_none, at_twice, at_waits, at_joins, after_distinct, after_paths, apart, ends_at, at_room, after_of}
@@ -59,7 +59,7 @@ settle_at-requires-clause-room g c =
     (same_read c.args.list.now.items c.in-Some.j y c.index.result.now there.within c.index-2.ensures c.index.ensures)
     ∙ c.if-index.false in
     subst (λ v.
-    (d : Revision M.Local)
+    (d : RevisionRow M.Local)
     → M.forks (get_or v c.args.i d).state + (g.L.Language.rules c.args.language.now).weight (get_or v c.args.i d).state
     + (M.forks (get_or v c.in-Some.j d).state
     + (g.L.Language.rules c.args.language.now).weight (get_or v c.in-Some.j d).state)

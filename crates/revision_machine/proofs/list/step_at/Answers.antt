@@ -3,7 +3,7 @@ use Rattle.std.proofs.Common.{◌≡◌, ◌+◌, length, set, get_or, sym, ap, 
 use Rattle.rev_num.specs.Path.{child}
 use Rattle.revision_machine.specs.Machine.{Live, step}
 use Rattle.revision_machine.specs.Laws.{IsDistinct}
-use Rattle.revision_machine.specs.declared.state.Revision.{Revision}
+use Rattle.revision_machine.specs.declared.state.RevisionRow.{RevisionRow}
 use Rattle.revision_machine.specs.Rules.{machine_of, event_of, IsStill}
 use Rattle.revision_machine.specs.PathIndex.{IsIndexed}
 use Rattle.revision_machine.specs.ListStep.{with_state}
@@ -100,7 +100,7 @@ returns-in_ok-push-in-Forked-clause-step g c =
     (same_read list c.args.i c.index-2.result.now x c.requires.within c.index-2.ensures r) in
     let path = c.in_ok-path-in-Forked.ensures ∙ ap (child x.path) number in
     subst
-    (λ v. (d : Revision M.Local) → step M (Live (globe list)) (get_or list c.args.i d).path ≡ Some (Live (globe v)))
+    (λ v. (d : RevisionRow M.Local) → step M (Live (globe list)) (get_or list c.args.i d).path ≡ Some (Live (globe v)))
     (sym c.in_ok-push-in-Forked.ensures.items)
     (forks_at M list c.args.i c.requires.distinct c.requires.within x r plain
     (g.L.Language.rules c.args.language.now).holds (g.L.Language.rules c.args.language.now).weight

@@ -7,7 +7,7 @@ use Rattle.merge_kernels.specs.Terms.{definition}
 use Rattle.rev_vm.specs.Starts.{run_under}
 use Rattle.rev_workers.specs.Plans.{IsPlanFor}
 use Rattle.hub_core.specs.Views.{first_of}
-use Rattle.code_runs.proofs.Underway.{of_run}
+use Rattle.code_runs.proofs.WorldsAndRuns.{of_run}
 use Rattle.turn_hub.specs.Names.{run_forkers, run_ends}
 use Rattle.thread_runs.specs.Ends.{AreOwned}
 use Rattle.thread_runs.proofs.Mains.{left_of}

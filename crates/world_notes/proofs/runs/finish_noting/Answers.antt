@@ -1,7 +1,7 @@
 -- What proves `finish_noting`.
 use Rattle.std.proofs.Common.{rules}
 use Rattle.rev_vm.specs.Starts.{run_under}
-use Rattle.world_notes.proofs.Leading.{finished_noting, first_in}
+use Rattle.world_notes.proofs.NotesOfLegs.{finished_noting, first_in}
 use Rattle.world_notes.proofs.runs.finish_noting.Goals as goal
 
 pub finish_by-requires-clause-reached : goal.finish_by-requires-clause-reached

@@ -1,6 +1,6 @@
 -- Answers of first_notes: one note in which nothing is noted is that of main at the start.
 use Rattle.std.proofs.Common.{◌∙◌, ◌++◌, [], ◌∷◌, ap}
-use Rattle.world_notes.proofs.Leading.{first_noted}
+use Rattle.world_notes.proofs.NotesOfLegs.{first_noted}
 use Rattle.world_notes.proofs.runs.first_notes.Goals as goal
 
 pub returns : goal.returns

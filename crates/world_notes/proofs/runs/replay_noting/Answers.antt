@@ -4,7 +4,7 @@ use Rattle.rev_vm.specs.Starts.{run_under}
 use Rattle.world_runs.specs.Replay.{IsIllegal}
 use Rattle.world_runs.specs.declared.replaying.ReplayFault.TheVariants as fault
 use Rattle.world_runs.proofs.Keeping.{handed}
-use Rattle.world_notes.proofs.Leading.{first_in, noted_there}
+use Rattle.world_notes.proofs.NotesOfLegs.{first_in, noted_there}
 use Rattle.world_notes.proofs.runs.replay_noting.Goals as goal
 
 pub replay_by-requires-clause-first : goal.replay_by-requires-clause-first

@@ -1,8 +1,8 @@
 -- What proves `finish_by`.
 use Rattle.std.proofs.Common.{◌∙◌, refl, arith}
-use Rattle.code_world.specs.Came.{run_under}
+use Rattle.code_world.specs.LegOutcomes.{run_under}
 use Rattle.world_runs.proofs.Keeping.{came_first, came_on, came_to_end, handed}
-use Rattle.world_runs.proofs.Leading.{first_covers, count_fits, came_few}
+use Rattle.world_runs.proofs.LeastLegs.{first_covers, count_fits, came_few}
 use Rattle.world_runs.proofs.Making.{merges_still}
 use Rattle.world_runs.proofs.ending.finish_by.Goals as goal
 

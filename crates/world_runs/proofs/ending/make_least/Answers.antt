@@ -1,10 +1,10 @@
 -- What proves `make_least`.
 use Rattle.std.proofs.Common.{◌≡◌, ◌∙◌, ◌<◌, ◌^◌, ℕ, ap, arith, rules}
 use Rattle.std.specs.BinaryHeap.{heap_len}
-use Rattle.code_world.specs.Came.{run_under}
+use Rattle.code_world.specs.LegOutcomes.{run_under}
 use Rattle.ready_queue.specs.Queue.{HasReady, entered}
 use Rattle.world_runs.proofs.Keeping.{handed}
-use Rattle.world_runs.proofs.Leading.{take_out, least_in, none_in}
+use Rattle.world_runs.proofs.LeastLegs.{take_out, least_in, none_in}
 use Rattle.world_runs.proofs.Making.{merges_still}
 use Rattle.world_runs.proofs.ending.make_least.Goals as goal
 

@@ -1,7 +1,7 @@
 -- What the loop of `make_least` keeps.
 use Rattle.std.proofs.Common.{◌≡◌, ℕ}
 use Rattle.code_machine.specs.Local.{Local}
-use Rattle.code_world.specs.Came.{run_under}
+use Rattle.code_world.specs.LegOutcomes.{run_under}
 use Rattle.code_world.specs.Tables.{IsWorld}
 use Rattle.code_machine_laws.specs.Reached.{IsReached}
 use Rattle.ready_queue.specs.Queue.{entered}

@@ -1,9 +1,9 @@
 -- What proves `try_leg`.
 use Rattle.std.proofs.Common.{subst}
-use Rattle.code_world.specs.Came.{run_under}
+use Rattle.code_world.specs.LegOutcomes.{run_under}
 use Rattle.code_world.specs.Tables.{IsWorld}
 use Rattle.world_runs.proofs.Keeping.{handed, kept_so, led_to}
-use Rattle.world_runs.proofs.Leading.{tried_live, tried_twice, known_live}
+use Rattle.world_runs.proofs.LeastLegs.{tried_live, tried_twice, known_live}
 use Rattle.world_runs.proofs.ending.try_leg.Goals as goal
 
 pub leg-requires-clause-reached : goal.leg-requires-clause-reached

@@ -1,5 +1,5 @@
 -- What proves `replay`.
-use Rattle.code_world.specs.Came.{run_under}
+use Rattle.code_world.specs.LegOutcomes.{run_under}
 use Rattle.world_runs.specs.Replay.{IsIllegal}
 use Rattle.world_runs.proofs.Keeping.{handed}
 use Rattle.world_runs.proofs.plain.replay.Goals as goal

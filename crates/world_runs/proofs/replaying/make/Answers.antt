@@ -1,6 +1,6 @@
 -- What proves `make`.
 use Rattle.std.proofs.Common.{subst}
-use Rattle.code_world.specs.Came.{run_under}
+use Rattle.code_world.specs.LegOutcomes.{run_under}
 use Rattle.code_world.specs.Tables.{IsWorld}
 use Rattle.world_runs.proofs.Keeping.{kept_so}
 use Rattle.world_runs.proofs.Making.{made_live, made_twice}

@@ -1,7 +1,7 @@
 -- What proves `replay_by`.
 use Rattle.std.proofs.Common.{◌∙◌, [], refl, arith}
 use Rattle.std.proofs.lemmas.Option.{slice_get-get_or}
-use Rattle.code_world.specs.Came.{run_under}
+use Rattle.code_world.specs.LegOutcomes.{run_under}
 use Rattle.code_machine_laws.proofs.Reaching.{start_reached}
 use Rattle.world_runs.proofs.Making.{replay_begins, replay_goes, replay_ends, merges_still}
 use Rattle.world_runs.proofs.replaying.replay_by.Goals as goal

@@ -1,11 +1,11 @@
 -- What the loop of `replay_by` keeps.
 use Rattle.std.proofs.Common.{◌≡◌, ℕ, take}
 use Rattle.code_machine.specs.Local.{Local}
-use Rattle.code_world.specs.Came.{run_under}
+use Rattle.code_world.specs.LegOutcomes.{run_under}
 use Rattle.code_world.specs.Tables.{IsWorld}
 use Rattle.code_machine_laws.specs.Reached.{IsReached}
 use Rattle.revision_machine.specs.Numbered.{World}
-use Rattle.world_runs.specs.Kept.{IsKeptFirst}
+use Rattle.world_runs.specs.KeptByLegs.{IsKeptFirst}
 use Rattle.world_runs.specs.Replay.{Replayed}
 use Rattle.world_runs.proofs.replaying.replay_by.Given as goal
 

@@ -2,7 +2,7 @@
 use Rattle.std.proofs.Common.{◌∙◌, sym, Ok, Err}
 use Rattle.code_machine.specs.Local.{CodeRun}
 use Rattle.rev_vm.specs.Starts.{run_under}
-use Rattle.code_runs.proofs.Underway.{of_run}
+use Rattle.code_runs.proofs.WorldsAndRuns.{of_run}
 use Rattle.code_machine_laws.specs.Texts.{NeverJoinsTwice}
 use Rattle.world_streams.specs.Streamed.{Streamed}
 use Rattle.world_streams.specs.declared.fault.StreamFault.TheVariants as fault

@@ -1,7 +1,7 @@
 -- Answers of Shapes::is_same: no two nodes have one shape, so two shapes are equal where their numbers are.
 use Rattle.std.proofs.Common.{◌∙◌, ap}
 use Rattle.code_rules.specs.Shapes.{same_shape}
-use Rattle.code_verifier.specs.Kept.{shape_at}
+use Rattle.code_verifier.specs.ShapesByNumber.{shape_at}
 use Rattle.code_verifier.proofs.Tries.{same_number, view_within}
 use Rattle.code_verifier.proofs.shapes.Shapes.is_same.Goals as goal
 

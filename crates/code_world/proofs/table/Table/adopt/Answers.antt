@@ -1,7 +1,7 @@
 -- `Table::adopt`: an end in the place of a running revision.
 use Rattle.std.proofs.Common.{◌∙◌, sym, ap, subst}
 use Rattle.revision_machine.specs.Numbered.{put_number}
-use Rattle.code_world.specs.declared.slot.Slot.TheVariants as slot
+use Rattle.code_world.specs.declared.slot.WorldSlot.TheVariants as slot
 use Rattle.code_world.specs.Answers.{Answers}
 use Rattle.code_world.specs.Turns.{ends_with}
 use Rattle.code_world.proofs.AdoptedEnds.{adopted}

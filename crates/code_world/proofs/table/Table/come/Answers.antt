@@ -5,7 +5,7 @@ use Rattle.leg_run.specs.declared.revision.Meeting.TheVariants as meeting
 use Rattle.code_machine.specs.Leg.{leg}
 use Rattle.revision_machine.specs.Numbered.{at_number, put_number}
 use Rattle.code_world.specs.declared.answer.LegAnswer.TheVariants as answer
-use Rattle.code_world.specs.declared.slot.Slot.TheVariants as slot
+use Rattle.code_world.specs.declared.slot.WorldSlot.TheVariants as slot
 use Rattle.code_world.specs.Answers.{Answers}
 use Rattle.code_world.specs.Meetings.{join_meeting}
 use Rattle.code_world.specs.Turns.{born, ends_with}

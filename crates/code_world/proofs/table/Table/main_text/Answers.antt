@@ -1,5 +1,5 @@
 -- Answers of Table::main_text: the slot with number 0 is that of main, and a running main's text is its runner's.
-use Rattle.code_world.specs.declared.slot.Slot.TheVariants as slot
+use Rattle.code_world.specs.declared.slot.WorldSlot.TheVariants as slot
 use Rattle.code_world.proofs.Saying.{first_slot, running_said}
 use Rattle.code_world.proofs.table.Table.main_text.Goals as goal
 

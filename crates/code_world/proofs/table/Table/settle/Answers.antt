@@ -1,7 +1,7 @@
 -- Answers of Table::settle: the end and the joiner are taken, they meet as a join does, and the result is put back.
 use Rattle.std.proofs.Common.{◌∙◌, length, ap, arith}
 use Rattle.revision_machine.specs.Numbered.{put_number}
-use Rattle.code_world.specs.declared.slot.Slot.TheVariants as slot
+use Rattle.code_world.specs.declared.slot.WorldSlot.TheVariants as slot
 use Rattle.code_world.proofs.Turning.{joiner_still, Taken, taken, joiner_state, joinee_end, takes, settles}
 use Rattle.code_world.proofs.table.Table.settle.Goals as goal
 use Rattle.revision_machine.proofs.Lists.{put_length, at_below}

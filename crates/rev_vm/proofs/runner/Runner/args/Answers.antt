@@ -1,6 +1,6 @@
 -- `Runner::args`: the first locals of a revision that is fresh, or the words that it has before its first leg.
 use Rattle.std.proofs.Common.{◌∙◌, sym, ap, subst}
-use Rattle.plain_words.specs.Agreement.{AreWords}
+use Rattle.block_run.specs.Agreement.{AreWords}
 use Rattle.rev_vm.specs.Starts.{run_under}
 use Rattle.rev_vm.proofs.Beginnings.{first_args, first_inside}
 use Rattle.rev_vm.proofs.Born.{begun_as, born_as, fresh_start}

@@ -1,7 +1,7 @@
 -- Answers of Store::absorb_chain: the first segment left is taken in, and its parent is the first of those then left.
 use Rattle.std.proofs.Common.{arith, ◌-◌, sym, refl, ◌∙◌, subst}
 use Rattle.segment_store.specs.Store.{Has}
-use Rattle.segment_store.proofs.Walk.{sound, chain_of, tail_top, top_part, segment_word}
+use Rattle.segment_store.proofs.ChainWalks.{sound, chain_of, tail_top, top_part, segment_word}
 use Rattle.segment_store.proofs.Taken.{taking_starts, takes, taken_all}
 use Rattle.segment_store.proofs.store.Store.absorb_chain.Goals as goal
 

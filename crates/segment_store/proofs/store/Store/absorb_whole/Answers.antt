@@ -8,7 +8,7 @@ use Rattle.segment_store.specs.Base.{absorbed}
 use Rattle.segment_store.specs.Same.{IsWord}
 use Rattle.segment_store.proofs.Fills.{empty_row}
 use Rattle.segment_store.proofs.Taken.{taken_some}
-use Rattle.segment_store.proofs.Walk.{row_of}
+use Rattle.segment_store.proofs.ChainWalks.{row_of}
 use Rattle.segment_store.proofs.store.Store.absorb_whole.Goals as goal
 
 pub returns-clause-values : goal.returns-clause-values

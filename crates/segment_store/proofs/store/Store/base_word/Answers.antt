@@ -1,7 +1,7 @@
 -- Answers of Store::base_word: words of its own are the base of a hold without a chain, and else the walk finds it.
 use Rattle.std.proofs.Common.{arith, rules, sym, ◌∙◌}
 use Rattle.std.proofs.lemmas.List.{get_or_read_under}
-use Rattle.segment_store.proofs.Walk.{sound}
+use Rattle.segment_store.proofs.ChainWalks.{sound}
 use Rattle.segment_store.proofs.Forks.{own_value}
 use Rattle.segment_store.proofs.store.Store.base_word.Goals as goal
 

@@ -2,7 +2,7 @@
 use Rattle.std.proofs.Common.{arith, rules, refl, ap, ◌∙◌, []}
 use Rattle.segment_store.specs.Own.{root_in}
 use Rattle.segment_store.proofs.Pops.{empty}
-use Rattle.segment_store.proofs.Walk.{rests_as}
+use Rattle.segment_store.proofs.ChainWalks.{rests_as}
 use Rattle.segment_store.proofs.store.Store.collapse.Goals as goal
 
 pub returns-then-hold-eq0-clause-bottom : goal.returns-then-hold-eq0-clause-bottom

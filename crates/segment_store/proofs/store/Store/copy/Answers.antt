@@ -1,6 +1,6 @@
 -- Answers of Store::copy: the chain's base is copied, and the words under the delta are those that are seen.
 use Rattle.atomic_table.specs.Table.{Me}
-use Rattle.segment_store.specs.declared.board.View.{View}
+use Rattle.segment_store.specs.declared.board.SegmentView.{SegmentView}
 use Rattle.std.proofs.Common.{◌<◌, ℕ, List, slice_index, sym, ap, ◌∙◌, subst}
 use Rattle.version_map.specs.Deltas.{at}
 use Rattle.version_map.specs.Overlay.{word_or}
@@ -16,7 +16,7 @@ returns-clause-own c = let h = c.args.hold.now in let s = c.args.self.now in
       k.own.0,
       λ l lt. k.base l ∙ (c.in_ok-base.ensures.words.1 l lt
           ∙ ap (λ (xs : List ℕ). value s.masks xs h.seat.me.0.chain l) (sym root)),
-      k.own.1 ∙ ap (λ (m : Me (Unit {0}) View). m.0.log) c.copy_chain.ensures.same.2,
+      k.own.1 ∙ ap (λ (m : Me (Unit {0}) SegmentView). m.0.log) c.copy_chain.ensures.same.2,
     )
 
 pub returns-clause-words : goal.returns-clause-words

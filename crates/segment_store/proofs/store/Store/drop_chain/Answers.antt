@@ -1,7 +1,7 @@
 -- Answers of Store::drop_chain: the hold rests on a sound chain, which may be released for the initial words.
 use Rattle.std.proofs.Common.{ℕ, ap, ◌∙◌, subst}
 use Rattle.segment_store.specs.Base.{Sound}
-use Rattle.segment_store.proofs.Walk.{sound}
+use Rattle.segment_store.proofs.ChainWalks.{sound}
 use Rattle.segment_store.proofs.store.Store.drop_chain.Goals as goal
 
 pub release_all-requires-clause-rests : goal.release_all-requires-clause-rests

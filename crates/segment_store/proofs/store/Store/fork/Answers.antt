@@ -5,7 +5,7 @@ use Rattle.atomic_table.specs.Table.{Me}
 use Rattle.version_map.specs.declared.delta.Delta.{Delta}
 use Rattle.version_map.specs.Overlay.{under}
 use Rattle.segment_store.specs.Entry.{Look}
-use Rattle.segment_store.specs.declared.board.View.{View}
+use Rattle.segment_store.specs.declared.board.SegmentView.{SegmentView}
 use Rattle.segment_store.specs.Names.{base}
 use Rattle.segment_store.proofs.Forks.{own_none}
 use Rattle.segment_store.proofs.Bases.{Still, same_base, same_under, based_under, none_under}
@@ -31,7 +31,7 @@ returns-then-hold-ge-LONGEST-clause-child c = let s = c.args.self.now in let h =
       | then-is_empty+in_default w ↦ subst (Still s h) (sym w.hold-is) (
         w.fork_share.ensures.own.0,
         w.fork_share.ensures.own.1,
-        ap (λ (m : Me (Unit {0}) View). m.0.log) w.in_default.ensures.none,
+        ap (λ (m : Me (Unit {0}) SegmentView). m.0.log) w.in_default.ensures.none,
       )
       | else-is_empty w ↦ subst (Still s h) (sym w.hold-is) (c.requires.own.0, (refl, refl), refl)
     ] in let k = c.if-is_empty.hold in let d = c.args.delta.now in
@@ -44,7 +44,7 @@ returns-then-hold-ge-LONGEST-clause-parent c = let s = c.args.self.now in let h 
       | then-is_empty+in_default w ↦ subst (Still s h) (sym w.hold-is) (
         w.fork_share.ensures.own.0,
         w.fork_share.ensures.own.1,
-        ap (λ (m : Me (Unit {0}) View). m.0.log) w.in_default.ensures.none,
+        ap (λ (m : Me (Unit {0}) SegmentView). m.0.log) w.in_default.ensures.none,
       )
       | else-is_empty w ↦ subst (Still s h) (sym w.hold-is) (c.requires.own.0, (refl, refl), refl)
     ] in let k = c.if-is_empty.hold in let d = c.args.delta.now in
@@ -56,7 +56,7 @@ returns-then-hold-ge-LONGEST-clause-copied c = let s = c.args.self.now in let h 
       | then-is_empty+in_default w ↦ subst (Still s h) (sym w.hold-is) (
         w.fork_share.ensures.own.0,
         w.fork_share.ensures.own.1,
-        ap (λ (m : Me (Unit {0}) View). m.0.log) w.in_default.ensures.none,
+        ap (λ (m : Me (Unit {0}) SegmentView). m.0.log) w.in_default.ensures.none,
       )
       | else-is_empty w ↦ subst (Still s h) (sym w.hold-is) (c.requires.own.0, (refl, refl), refl)
     ] in let k = c.if-is_empty.hold in let d = c.args.delta.now in
@@ -73,7 +73,7 @@ returns-in-Some-fork_push-clause-child c = let s = c.args.self.now in let h = c.
       | then-is_empty+in_default w ↦ subst (Still s h) (sym w.hold-is) (
         w.fork_share.ensures.own.0,
         w.fork_share.ensures.own.1,
-        ap (λ (m : Me (Unit {0}) View). m.0.log) w.in_default.ensures.none,
+        ap (λ (m : Me (Unit {0}) SegmentView). m.0.log) w.in_default.ensures.none,
       )
       | else-is_empty w ↦ subst (Still s h) (sym w.hold-is) (c.requires.own.0, (refl, refl), refl)
     ] in let k = c.if-is_empty.hold in let d = c.args.delta.now in
@@ -88,7 +88,7 @@ returns-in-Some-fork_push-clause-parent c = let s = c.args.self.now in let h = c
       | then-is_empty+in_default w ↦ subst (Still s h) (sym w.hold-is) (
         w.fork_share.ensures.own.0,
         w.fork_share.ensures.own.1,
-        ap (λ (m : Me (Unit {0}) View). m.0.log) w.in_default.ensures.none,
+        ap (λ (m : Me (Unit {0}) SegmentView). m.0.log) w.in_default.ensures.none,
       )
       | else-is_empty w ↦ subst (Still s h) (sym w.hold-is) (c.requires.own.0, (refl, refl), refl)
     ] in let k = c.if-is_empty.hold in let d = c.args.delta.now in
@@ -104,7 +104,7 @@ returns-clause-child c = let s = c.args.self.now in let h = c.args.hold.now in
       | then-is_empty+in_default w ↦ subst (Still s h) (sym w.hold-is) (
         w.fork_share.ensures.own.0,
         w.fork_share.ensures.own.1,
-        ap (λ (m : Me (Unit {0}) View). m.0.log) w.in_default.ensures.none,
+        ap (λ (m : Me (Unit {0}) SegmentView). m.0.log) w.in_default.ensures.none,
       )
       | else-is_empty w ↦ subst (Still s h) (sym w.hold-is) (c.requires.own.0, (refl, refl), refl)
     ] in let k = c.if-is_empty.hold in let d = c.args.delta.now in
@@ -122,7 +122,7 @@ returns-clause-parent c = let s = c.args.self.now in let h = c.args.hold.now in
       | then-is_empty+in_default w ↦ subst (Still s h) (sym w.hold-is) (
         w.fork_share.ensures.own.0,
         w.fork_share.ensures.own.1,
-        ap (λ (m : Me (Unit {0}) View). m.0.log) w.in_default.ensures.none,
+        ap (λ (m : Me (Unit {0}) SegmentView). m.0.log) w.in_default.ensures.none,
       )
       | else-is_empty w ↦ subst (Still s h) (sym w.hold-is) (c.requires.own.0, (refl, refl), refl)
     ] in let k = c.if-is_empty.hold in let d = c.args.delta.now in

@@ -6,7 +6,7 @@ use Rattle.segment_store.specs.Entry.{Entry}
 use Rattle.segment_store.specs.Base.{value}
 use Rattle.segment_store.specs.Own.{root_in}
 use Rattle.segment_store.specs.Names.{base}
-use Rattle.segment_store.proofs.Walk.{chain_of}
+use Rattle.segment_store.proofs.ChainWalks.{chain_of}
 use Rattle.segment_store.proofs.Bases.{same_base, none_under}
 use Rattle.segment_store.proofs.store.Store.fork_long.Goals as goal
 

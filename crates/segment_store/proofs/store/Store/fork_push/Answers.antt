@@ -3,7 +3,7 @@ use Rattle.std.proofs.Common.{arith, [], None, refl, sym, ap, ◌∙◌, List, �
 use Rattle.segment_store.specs.Entry.{Entry}
 use Rattle.segment_store.specs.Base.{value}
 use Rattle.segment_store.specs.Own.{IsOwn}
-use Rattle.segment_store.proofs.Walk.{rests_as}
+use Rattle.segment_store.proofs.ChainWalks.{rests_as}
 use Rattle.segment_store.proofs.Fills.{none_some}
 use Rattle.segment_store.proofs.Forks.{completes}
 use Rattle.segment_store.proofs.store.Store.fork_push.Goals as goal

@@ -1,7 +1,7 @@
 -- Answers of Store::keep_words: the hold rests on a sound chain, which may be released for words of its own.
 use Rattle.std.proofs.Common.{ℕ, ap, ◌∙◌, subst}
 use Rattle.segment_store.specs.Base.{Sound}
-use Rattle.segment_store.proofs.Walk.{sound}
+use Rattle.segment_store.proofs.ChainWalks.{sound}
 use Rattle.segment_store.proofs.store.Store.keep_words.Goals as goal
 
 pub release_all-requires-clause-rests : goal.release_all-requires-clause-rests

@@ -1,7 +1,7 @@
 -- Answers of Store::release: the hold rests on a sound chain, all of which may be released.
 use Rattle.std.proofs.Common.{ℕ, ap, ◌∙◌, subst}
 use Rattle.segment_store.specs.Base.{Sound}
-use Rattle.segment_store.proofs.Walk.{sound}
+use Rattle.segment_store.proofs.ChainWalks.{sound}
 use Rattle.segment_store.proofs.store.Store.release.Goals as goal
 
 pub release_all-requires-clause-rests : goal.release_all-requires-clause-rests

@@ -1,5 +1,5 @@
 -- Loops of Store::release_all: what is left of the chain is sound and the seat's, and all else is as at first.
-use Rattle.segment_store.proofs.Walk.{Falling}
+use Rattle.segment_store.proofs.ChainWalks.{Falling}
 use Rattle.segment_store.proofs.store.Store.release_all.Given as goal
 
 abbrev pub invariant-loop-below : goal.invariant-loop-below

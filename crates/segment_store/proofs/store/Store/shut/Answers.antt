@@ -3,7 +3,7 @@ use Rattle.std.proofs.Common.{◌≡◌, ℕ, subst, ap}
 use mathlib.Core.Option.{some}
 use lib.ListN.{get_elem?}
 use Rattle.atomic_table.specs.Table.{Me}
-use Rattle.segment_store.specs.declared.board.View.{View}
+use Rattle.segment_store.specs.declared.board.SegmentView.{SegmentView}
 use Rattle.segment_store.specs.Rule.{Rule}
 use Rattle.segment_store.proofs.store.Store.shut.Goals as goal
 
@@ -15,8 +15,8 @@ returns-clause-words c = let z = c.args.self.sized in
       record {
         rule = subst (λ (y : ℕ × ℕ × ℕ). Rule y.0 y.1 y.2 s)
             (λ i. (z.1 i, z.2 i, c.args.self.masked i)) seen.0;
-        seat = subst (λ (y : ℕ × View). get_elem? s.views y.0 ≡ some y.1)
-            (λ i. (same.1 i, ap (λ (m : Me (Unit {0}) View). m.0) same.2 i)) seen.1;
+        seat = subst (λ (y : ℕ × SegmentView). get_elem? s.views y.0 ≡ some y.1)
+            (λ i. (same.1 i, ap (λ (m : Me (Unit {0}) SegmentView). m.0) same.2 i)) seen.1;
       },
       f.2,
     )

@@ -2,7 +2,7 @@
 use Rattle.std.proofs.Common.{arith, rules, ◌+◌, ◌-◌, ◌%◌, sym, refl, ◌∙◌}
 use Rattle.std.proofs.lemmas.Nat.Bits.{shr_and_one}
 use Rattle.std.proofs.lemmas.List.{get_or_read_under}
-use Rattle.segment_store.proofs.Walk.{start, visit, loaded, chain_of, row_of, bit_loaded, ended}
+use Rattle.segment_store.proofs.ChainWalks.{start, visit, loaded, chain_of, row_of, bit_loaded, ended}
 use Rattle.segment_store.proofs.store.Store.walk.Goals as goal
 
 pub loop-left-init : goal.loop-left-init

@@ -1,6 +1,6 @@
 -- Loops of Store::walk: the chain from this segment on has at the location the value that the whole chain has.
 use Rattle.segment_store.specs.Same.{IsSameSeat}
-use Rattle.segment_store.proofs.Walk.{Going}
+use Rattle.segment_store.proofs.ChainWalks.{Going}
 use Rattle.segment_store.proofs.store.Store.walk.Given as goal
 
 abbrev pub invariant-loop-left : goal.invariant-loop-left

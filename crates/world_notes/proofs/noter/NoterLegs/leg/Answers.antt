@@ -2,7 +2,7 @@
 use Rattle.rev_vm.specs.Starts.{run_under}
 use Rattle.world_runs.proofs.Keeping.{keeps_so}
 use Rattle.world_notes.specs.Notes.{NotesOf}
-use Rattle.world_notes.proofs.Leading.{noted_after}
+use Rattle.world_notes.proofs.NotesOfLegs.{noted_after}
 use Rattle.world_notes.proofs.noter.NoterLegs.leg.Goals as goal
 
 pub leg_meeting-requires-clause-reached : goal.leg_meeting-requires-clause-reached

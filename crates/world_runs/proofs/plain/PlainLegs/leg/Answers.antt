@@ -1,5 +1,5 @@
 -- What proves the legs of `Plain`.
-use Rattle.code_world.specs.Came.{run_under}
+use Rattle.code_world.specs.LegOutcomes.{run_under}
 use Rattle.world_runs.proofs.Keeping.{kept_nothing}
 use Rattle.world_runs.proofs.plain.PlainLegs.leg.Goals as goal
 

@@ -1,5 +1,0 @@
-pub mod Words
-pub mod Good
-pub mod Exact
-pub mod Whole
-pub mod OneVerdict

@@ -1,4 +1,0 @@
-pub mod Laws
-pub mod Verdicts
-pub mod Forms
-pub mod Written

@@ -1,8 +1,0 @@
-//! Each list of bytes is a trace text or has a first fault.
-
-ghost use Rattle.trace_laws.specs.Laws.{EachIsReadOrFails};
-
-/// Each list of bytes, of numbers of any size even, is the text of a trace or has a first fault.
-pub fn reading_law()
-    ensures { EachIsReadOrFails }
-{}
