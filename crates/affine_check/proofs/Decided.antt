@@ -23,7 +23,7 @@ use Rattle.affine_check.proofs.Places.{places_found, places_sound}
 use Rattle.affine_check.specs.declared.fault.AffineFault.{AffineFault}
 use Rattle.affine_check.specs.declared.fault.AffineFault.TheVariants.{Copied, Stored, UsedTwice, InLoop, OutOfMemory}
 use Rattle.affine_check.specs.Faults.{place, rank, Refuses}
-use Rattle.affine_check.specs.Walk.{Fault, both, misused, broken_in, misused_params, broken_body, broken_declaration, broken_declarations, broken_in_program}
+use Rattle.affine_check.specs.Walk.{Fault, both, misused, broken_in, misused_params, broken_body, broken_declaration, broken_declarations, broken_under, broken_in_program}
 use Rattle.affine_check.proofs.Bounds.{or-assoc, or-false, upto, meets, any, meets-both}
 use Rattle.affine_check.proofs.Found.{copy, store, handles_arms, broken_is}
 use Rattle.affine_check.proofs.Handles.{Holds, either, left, right, never, arm_both, both_hold, pass, IsHandle, SomeHandle, Closed, was_handle, scope_free, twice_in, any_either, any_left, any_right, none_append, follows, looped, trails, trails_of, misuse_is, misuse_of, free_ahead, complete, sound}
@@ -591,17 +591,15 @@ module _ (p : ProgramTree) (typed : ProgramTyped p) where
                 (subst (λ x. Holds (cond (is_less y (number d) x (rank f)) false true)) order.0 (no_later d y h)));
           }))
 
--- the first breach of a program is that of its declarations or of `main`, by a checker with its tables
-pub program_found : (q : ProgramTree) (o : held_checker.Checker) {e1 e2 e3 e4 : List Declaration} {d m x : Fault}
-    → e1 ≡ q.declarations → e2 ≡ q.declarations → e3 ≡ q.declarations → e4 ≡ q.declarations
-    → o.inside ≡ false → o.shared.now ≡ shared_table [] e1 → callees o.procs.now ≡ proc_table [] e2
-    → callees o.funs.now ≡ fun_table [] e3
-    → d ≡ broken_declarations (names_of o) None e4 → m ≡ broken_body (names_of o) [] q.main → x ≡ both d m
-    → x ≡ broken_in_program q
-program_found q o p1 p2 p3 p4 oi os op of hd hm hx =
-    let names : names_of o ≡ outside q.declarations =
-    outer_names o q.declarations oi (os ∙ ap (λ es. shared_table [] es) p1) (op ∙ ap (λ es. proc_table [] es) p2)
-    (of ∙ ap (λ es. fun_table [] es) p3) in
-    hx
-    ∙ (λ i. both ((hd ∙ (λ j. broken_declarations (names j) None (p4 j))) i)
-    ((hm ∙ (λ j. broken_body (names j) [] q.main)) i))
+-- the first breach of a program is that of its declarations or of `main`
+pub program_found : (q : ProgramTree) (c : Names) {e : List Declaration} {d m x : Fault} → e ≡ q.declarations
+    → d ≡ broken_declarations c None e → m ≡ broken_body c [] q.main → x ≡ both d m → x ≡ broken_under c q
+program_found q c p hd hm hx = hx ∙ (λ i. both ((hd ∙ (λ j. broken_declarations c None (p j))) i) (hm i))
+
+-- what names mean outside of procedures, by a checker with the tables of a program
+pub program_names : (q : ProgramTree) (o : held_checker.Checker) {e : List Declaration} → e ≡ q.declarations
+    → o.inside ≡ false → o.shared.now ≡ shared_table [] e → callees o.procs.now ≡ proc_table [] e
+    → callees o.funs.now ≡ fun_table [] e → names_of o ≡ outside q.declarations
+program_names q o p oi os op of =
+    outer_names o q.declarations oi (os ∙ ap (λ es. shared_table [] es) p) (op ∙ ap (λ es. proc_table [] es) p)
+    (of ∙ ap (λ es. fun_table [] es) p)

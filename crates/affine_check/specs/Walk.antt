@@ -261,6 +261,9 @@ abbrev pub broken_declarations : Names → Fault → List Declaration → Fault
 broken_declarations c found [] = found
 broken_declarations c found (e ∷ es) = broken_declarations c (both found (broken_declaration c e)) es
 
+-- where the names mean this outside of procedures
+abbrev pub broken_under : Names → ProgramTree → Fault
+broken_under c p = both (broken_declarations c None p.declarations) (broken_body c [] p.main)
+
 abbrev pub broken_in_program : ProgramTree → Fault
-broken_in_program p =
-    let c = outside p.declarations in both (broken_declarations c None p.declarations) (broken_body c [] p.main)
+broken_in_program p = broken_under (outside p.declarations) p

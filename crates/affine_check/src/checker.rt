@@ -295,6 +295,18 @@ fn broken_decls(
     Ok(found)
 }
 
+/// The first breach of a program, whose names mean this outside of procedures.
+fn broken_under(
+    alloc: Global,
+    checker: &Checker,
+    p: &Program,
+) -> Result<Option<AffineFault>, AllocError>
+    ensures { IfOk result (λ f. f ≡ rule.broken_under (names_of checker.now) (whole p.now)) }
+{
+    let declared = broken_decls(alloc, checker, &p.decls)?;
+    Ok(first(declared, broken_body(alloc, checker, &[], &p.main)?))
+}
+
 /// The first breach of a program.
 fn first_broken(alloc: Global, p: &Program) -> Result<Option<AffineFault>, AllocError>
     ensures { IfOk result (λ f. f ≡ rule.broken_in_program (whole p.now)) }
@@ -306,8 +318,7 @@ fn first_broken(alloc: Global, p: &Program) -> Result<Option<AffineFault>, Alloc
         funs: &tables.funs,
         inside: false,
     };
-    let declared = broken_decls(alloc, &checker, &p.decls)?;
-    Ok(first(declared, broken_body(alloc, &checker, &[], &p.main)?))
+    broken_under(alloc, &checker, p)
 }
 
 /// Whether a well-typed program keeps the affine rule; else its first breach, at the least place,

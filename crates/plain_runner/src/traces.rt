@@ -28,7 +28,7 @@ fn parts_of<'a>(
     let mut parts = Vec::with_capacity(alloc, revisions.len())?;
     let mut rest = revisions;
     while let Some(revision) = rest.pop() {
-        parts.push(part_of(alloc, places, revision.path, revision.state)?)?;
+        parts.push(part_of(alloc, places, revision.path, &revision.state)?)?;
     }
     Ok(parts)
 }

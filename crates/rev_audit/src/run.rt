@@ -84,7 +84,7 @@ pub(crate) fn run_alone<'a>(
         let on = match stop {
             Stop::Wants(on) => on,
             Stop::Ended => {
-                let part = part_of(alloc, &stated.places, next.path, next.local)?;
+                let part = part_of(alloc, &stated.places, next.path, &next.local)?;
                 let computed = Computed::Part(part);
                 return Ok(OwnRun { computed, children });
             }

@@ -1,5 +1,5 @@
 -- Chains behind a first operand that was read.
-use Rattle.std.proofs.Common.{◌≡◌, ℕ, Bool, true, false, ◌||◌, List, [], length, refl, sym, ap, ◌∙◌, true≢false}
+use Rattle.std.proofs.Common.{◌≡◌, ℕ, Bool, true, false, ◌||◌, List, [], length, refl, ap, ◌∙◌, true≢false}
 use Rattle.rev_syntax.specs.declared.token.Token.{Token}
 use Rattle.rev_syntax.specs.Trees.{Expression}
 use Rattle.rev_expressions.specs.Outcome.{Outcome, Parser, Read, Failed, and_then}

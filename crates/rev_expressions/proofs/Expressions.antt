@@ -14,7 +14,7 @@ use Rattle.rev_expressions.specs.Classes.{Class, is_same}
 use Rattle.rev_expressions.specs.Source.{word_of}
 use Rattle.rev_expressions.specs.Outcome.{Outcome, Read, Failed, and_then, after, next, Unexpected, TooDeep}
 use Rattle.rev_expressions.specs.Reader.{begins, first, nullable, passes, next_kind, is_next, read, below, inside_of, Inside}
-use Rattle.rev_expressions.specs.Grammar.{alphabet, Inner, Value, Operand, Parens, Index, Arguments, Parts, rank_sign, bracketed, choice, name, name_tail, primary, unary, product, sum, comparison, conjunction, expr, parens, index, arguments, parts, listed, listing, joined, moved}
+use Rattle.rev_expressions.specs.Grammar.{alphabet, Inner, Value, Operand, Parens, Index, Arguments, Parts, before, rank_sign, bracketed, choice, name, name_tail, primary, unary, product, sum, comparison, conjunction, expr, parens, index, arguments, parts, listed, listing, joined, moved}
 use Rattle.rev_expressions.specs.Declarations.{inner}
 use Rattle.rev_expressions.specs.Parse.{expected, parse, inside, links, of_name, of_parts, sign_at, expr_begins}
 use Rattle.rev_expressions.specs.Lists.{more_listed}
@@ -38,12 +38,6 @@ K = expected
 
 abbrev double : Expression → Expression → Expression × Expression
 double a b = (a, b)
-
--- two expressions with a comma between them
-abbrev pair_of : List ℕ → ℕ → Outcome Token Expression → Outcome Token (Expression × Expression)
-pair_of bytes m o =
-    and_then (and_then o (λ a rest3. and_then (K s.Comma rest3) (λ y rest4. Read a rest4)))
-    (λ a rest4. and_then (E bytes m rest4) (λ b rest5. Read (double a b) rest5))
 
 abbrev triple : Expression → Expression → Expression → Expression × Expression × Expression
 triple c a b = (c, a, b)
@@ -77,10 +71,19 @@ module _ (bytes : List ℕ) (n : ℕ) where
   unfolding inner
   operand_go f m ts e = inside_go Operand f m ts e
 
+  -- an expression and the sign behind it
+  abbrev pub B : ℕ → Fixed → List Token → Outcome Token Expression
+  B m sign = parse bytes m (before (expr bytes) sign)
+
   pub index_go : {A : Type 0} (f : Expression → A) (m : ℕ) (ts : List Token) → n ≡ suc m
-      → inside bytes n Index f ts ≡ and_then (parse bytes m (index bytes) (after ts)) (λ y rest. Read (f y) rest)
-  unfolding inner
+      → inside bytes n Index f ts ≡ and_then (B m s.CloseBracket (after ts)) (λ y rest. Read (f y) rest)
+  unfolding inner index
   index_go f m ts e = inside_go Index f m ts e
+
+  pub parens_go : (f : Expression → Expression) (m : ℕ) (ts : List Token) → n ≡ suc m
+      → inside bytes n Parens f ts ≡ and_then (B m s.CloseParen (after ts)) (λ y rest. Read (f y) rest)
+  unfolding inner parens
+  parens_go f m ts e = inside_go Parens f m ts e
 
   pub arguments_go : {A : Type 0} (f : List Expression → A) (m : ℕ) (ts : List Token) → n ≡ suc m
       → inside bytes n Arguments f ts
@@ -92,21 +95,13 @@ module _ (bytes : List ℕ) (n : ℕ) where
   abbrev pub closed : {A B : Type 0} → Fixed → (A → B) → Outcome Token A → Outcome Token B
   closed sign f o = and_then o (λ a rest. and_then (K sign rest) (λ x rest2. Read (f a) rest2))
 
-  pub closed_then : {A B C : Type 0} (sign : Fixed) (f : A → B) (g : B → C) (o : Outcome Token A)
-      → and_then (closed sign f o) (λ b rest. Read (g b) rest) ≡ closed sign (λ a. g (f a)) o
-  closed_then sign f g (Read a rest) = twice (λ x. f a) g (K sign rest)
-  closed_then sign f g (Failed e rest) = refl
+  before_reads : (m : ℕ) (sign : Fixed) (ts : List Token) → B m sign ts ≡ closed sign (λ a. a) (E bytes m ts)
+  unfolding read
+  before_reads m sign ts = refl
 
-  pub parens_go : (f : Expression → Expression) (m : ℕ) (ts : List Token) → n ≡ suc m
-      → inside bytes n Parens f ts ≡ closed s.CloseParen f (parse bytes m (expr bytes) (after ts))
-  unfolding inner read parens
-  parens_go f m ts e =
-      inside_go Parens f m ts e ∙ closed_then s.CloseParen (λ a. a) f (parse bytes m (expr bytes) (after ts))
-
-  pub index_is : (ts : List Token)
-      → parse bytes n (index bytes) ts ≡ closed s.CloseBracket (λ a. a) (parse bytes n (expr bytes) ts)
-  unfolding read index
-  index_is ts = refl
+  pub before_is : (sign : Fixed) (ts : List Token)
+      → parse bytes n (before (expr bytes) sign) ts ≡ closed sign (λ a. a) (parse bytes n (expr bytes) ts)
+  before_is sign ts = before_reads n sign ts
 
   pub arguments_are : (ts : List Token)
       → parse bytes n (arguments bytes) ts ≡ closed s.CloseParen (λ a. a) (parse bytes n (listing (expr bytes)) ts)
@@ -114,83 +109,48 @@ module _ (bytes : List ℕ) (n : ℕ) where
   arguments_are ts = refl
 
   pub parts_go : (at m : ℕ) (ts : List Token) → n ≡ suc m → of_parts at (inside bytes n Parts (λ p. p) ts) ≡
-      and_then (parse bytes m (expr bytes) (after ts)) (λ c rest. and_then (K s.Comma rest) (λ x rest2.
-      and_then (parse bytes m (expr bytes) rest2) (λ a rest3. and_then (K s.Comma rest3) (λ y rest4.
-      and_then (parse bytes m (expr bytes) rest4) (λ b rest5. and_then (K s.CloseParen rest5) (λ z rest6.
-      Read (placed at (pick c a b)) rest6))))))
+      and_then (B m s.Comma (after ts)) (λ c rest. and_then (B m s.Comma rest) (λ a rest2.
+      and_then (B m s.CloseParen rest2) (λ b rest3. Read (placed at (pick c a b)) rest3)))
   unfolding inner read parts
-  parts_go at m ts e =
-      ap (of_parts at) (inside_go Parts (λ p. p) m ts e) ∙ by_first (parse bytes m (expr bytes) (after ts))
+  parts_go at m ts e = ap (of_parts at) (inside_go Parts (λ p. p) m ts e) ∙ by_first (B m s.Comma (after ts))
     where
       by_last : (c a : Expression) (o : Outcome Token Expression)
           → of_parts at (and_then (and_then
           (and_then (and_then o (λ b rest5. Read (double a b) rest5)) (λ ab rest5. Read (triple c ab.0 ab.1) rest5))
           (λ p rest5. and_then (K s.CloseParen rest5) (λ z rest6. Read p rest6)))
           (λ p rest6. Read p rest6))
-          ≡ and_then o (λ b rest5. and_then (K s.CloseParen rest5) (λ z rest6. Read (placed at (pick c a b)) rest6))
+          ≡ and_then (and_then o (λ b rest5. and_then (K s.CloseParen rest5) (λ z rest6. Read b rest6)))
+          (λ b rest6. Read (placed at (pick c a b)) rest6)
       by_last c a (Read b rest5) =
           ap (of_parts at) (same_outcome (and_then (K s.CloseParen rest5) (λ z rest6. Read (triple c a b) rest6)))
           ∙ twice (λ z. triple c a b) (λ p. placed at (pick p.0 p.1 p.2)) (K s.CloseParen rest5)
+          ∙ sym (twice (λ z. b) (λ b. placed at (pick c a b)) (K s.CloseParen rest5))
       by_last c a (Failed x rest5) = refl
 
-      by_comma2 : (c a : Expression) (o : Outcome Token (Unit {0}))
+      by_second : (c : Expression) (o : Outcome Token Expression)
           → of_parts at (and_then (and_then
-          (and_then (and_then (and_then o (λ y rest4. Read a rest4))
-          (λ a rest4. and_then (E bytes m rest4) (λ b rest5. Read (double a b) rest5)))
+          (and_then (and_then o (λ a rest4. and_then (E bytes m rest4) (λ b rest5. Read (double a b) rest5)))
           (λ ab rest5. Read (triple c ab.0 ab.1) rest5))
           (λ p rest5. and_then (K s.CloseParen rest5) (λ z rest6. Read p rest6)))
           (λ p rest6. Read p rest6))
-          ≡ and_then o (λ y rest4.
-          and_then (E bytes m rest4)
-          (λ b rest5. and_then (K s.CloseParen rest5) (λ z rest6. Read (placed at (pick c a b)) rest6)))
-      by_comma2 c a (Read y rest4) = by_last c a (E bytes m rest4)
-      by_comma2 c a (Failed x rest4) = refl
-
-      by_second : (c : Expression) (o : Outcome Token Expression)
-          → of_parts at (and_then (and_then (and_then (pair_of bytes m o) (λ ab rest5. Read (triple c ab.0 ab.1) rest5))
-          (λ p rest5. and_then (K s.CloseParen rest5) (λ z rest6. Read p rest6)))
-          (λ p rest6. Read p rest6))
-          ≡ and_then o (λ a rest3.
-          and_then (K s.Comma rest3)
-          (λ y rest4.
-          and_then (E bytes m rest4)
-          (λ b rest5. and_then (K s.CloseParen rest5) (λ z rest6. Read (placed at (pick c a b)) rest6))))
-      by_second c (Read a rest3) = by_comma2 c a (K s.Comma rest3)
-      by_second c (Failed x rest3) = refl
-
-      by_comma : (c : Expression) (o : Outcome Token (Unit {0}))
-          → of_parts at (and_then (and_then
-          (and_then (and_then o (λ x rest2. Read c rest2))
-          (λ c rest2. and_then (pair_of bytes m (E bytes m rest2)) (λ ab rest5. Read (triple c ab.0 ab.1) rest5)))
-          (λ p rest5. and_then (K s.CloseParen rest5) (λ z rest6. Read p rest6)))
-          (λ p rest6. Read p rest6))
-          ≡ and_then o (λ x rest2.
-          and_then (E bytes m rest2)
-          (λ a rest3.
-          and_then (K s.Comma rest3)
-          (λ y rest4.
-          and_then (E bytes m rest4)
-          (λ b rest5. and_then (K s.CloseParen rest5) (λ z rest6. Read (placed at (pick c a b)) rest6)))))
-      by_comma c (Read x rest2) = by_second c (E bytes m rest2)
-      by_comma c (Failed x rest2) = refl
+          ≡ and_then o (λ a rest4.
+          and_then (B m s.CloseParen rest4) (λ b rest6. Read (placed at (pick c a b)) rest6))
+      by_second c (Read a rest4) =
+          by_last c a (E bytes m rest4)
+          ∙ ap (λ o. and_then o (λ b rest6. Read (placed at (pick c a b)) rest6)) (sym (before_reads m s.CloseParen rest4))
+      by_second c (Failed x rest4) = refl
 
       by_first : (o : Outcome Token Expression)
           → of_parts at (and_then (and_then
-          (and_then (and_then o (λ c rest. and_then (K s.Comma rest) (λ x rest2. Read c rest2)))
-          (λ c rest2. and_then (pair_of bytes m (E bytes m rest2)) (λ ab rest5. Read (triple c ab.0 ab.1) rest5)))
+          (and_then o (λ c rest2. and_then
+          (and_then (B m s.Comma rest2) (λ a rest4. and_then (E bytes m rest4) (λ b rest5. Read (double a b) rest5)))
+          (λ ab rest5. Read (triple c ab.0 ab.1) rest5)))
           (λ p rest5. and_then (K s.CloseParen rest5) (λ z rest6. Read p rest6)))
           (λ p rest6. Read p rest6))
-          ≡ and_then o (λ c rest.
-          and_then (K s.Comma rest)
-          (λ x rest2.
-          and_then (E bytes m rest2)
-          (λ a rest3.
-          and_then (K s.Comma rest3)
-          (λ y rest4.
-          and_then (E bytes m rest4)
-          (λ b rest5. and_then (K s.CloseParen rest5) (λ z rest6. Read (placed at (pick c a b)) rest6))))))
-      by_first (Read c rest) = by_comma c (K s.Comma rest)
-      by_first (Failed x rest) = refl
+          ≡ and_then o (λ c rest2. and_then (B m s.Comma rest2) (λ a rest4.
+          and_then (B m s.CloseParen rest4) (λ b rest6. Read (placed at (pick c a b)) rest6)))
+      by_first (Read c rest2) = by_second c (B m s.Comma rest2)
+      by_first (Failed x rest2) = refl
 
   -- ---- names
 
@@ -254,8 +214,8 @@ module _ (bytes : List ℕ) (n : ℕ) where
       by_below (Some p) = twice f g (p i (after ts))
 
   pub index_only : (m : ℕ) (ts : List Token) → n ≡ suc m
-      → inside bytes n Index (λ i. i) ts ≡ parse bytes m (index bytes) (after ts)
-  index_only m ts e = index_go (λ i. i) m ts e ∙ same_outcome (parse bytes m (index bytes) (after ts))
+      → inside bytes n Index (λ i. i) ts ≡ B m s.CloseBracket (after ts)
+  index_only m ts e = index_go (λ i. i) m ts e ∙ same_outcome (B m s.CloseBracket (after ts))
 
   pub parts_none : (at : ℕ) (ts : List Token) → n ≡ 0
       → of_parts at (inside bytes n Parts (λ p. p) ts) ≡ Failed TooDeep ts

@@ -505,8 +505,7 @@ fn parenthesized(
 {
     let inner = within(levels)?;
     cursor.advance();
-    let e = ranked(source, cursor, inner, Rank::Or)?;
-    cursor.expect(Fixed::CloseParen)?;
+    let e = expr_before(source, cursor, inner, Fixed::CloseParen)?;
     Ok(moved(at, e))
 }
 
@@ -545,7 +544,7 @@ fn indexed(
 {
     let inner = within(levels)?;
     cursor.advance();
-    let index = index(source, cursor, inner)?;
+    let index = expr_before(source, cursor, inner, Fixed::CloseBracket)?;
     Ok(cell(source.alloc, name, index)?)
 }
 
@@ -583,17 +582,23 @@ pub fn bracketed(
     }
     let inner = within(levels)?;
     cursor.advance();
-    index(source, cursor, inner)
+    expr_before(source, cursor, inner, Fixed::CloseBracket)
 }
 
-/// An index behind its opening bracket.
+/// An expression and the sign behind it.
 #[cycle(expr)]
-#[tactic(auto, using(crate::proofs::Expressions::index_is))]
-fn index(source: &SourceText<'_>, cursor: &mut Cursor<'_>, levels: u32) -> Result<Expr, TreeFault>
-    ensures { Parses spec.index source.now levels cursor.old view.expression result cursor.new }
+#[tactic(auto, using(crate::proofs::Expressions::before_is))]
+pub fn expr_before(
+    source: &SourceText<'_>,
+    cursor: &mut Cursor<'_>,
+    levels: u32,
+    sign: Fixed,
+) -> Result<Expr, TreeFault>
+    ensures { Parses (λ b. spec.before (spec.expr b) sign)
+        source.now levels cursor.old view.expression result cursor.new }
 {
     let e = ranked(source, cursor, levels, Rank::Or)?;
-    cursor.expect(Fixed::CloseBracket)?;
+    cursor.expect(sign)?;
     Ok(e)
 }
 
@@ -614,12 +619,9 @@ fn pick(
     }
     let inner = within(levels)?;
     cursor.advance();
-    let test = ranked(source, cursor, inner, Rank::Or)?;
-    cursor.expect(Fixed::Comma)?;
-    let yes = ranked(source, cursor, inner, Rank::Or)?;
-    cursor.expect(Fixed::Comma)?;
-    let no = ranked(source, cursor, inner, Rank::Or)?;
-    cursor.expect(Fixed::CloseParen)?;
+    let test = expr_before(source, cursor, inner, Fixed::Comma)?;
+    let yes = expr_before(source, cursor, inner, Fixed::Comma)?;
+    let no = expr_before(source, cursor, inner, Fixed::CloseParen)?;
     Ok(picked(source.alloc, at, test, yes, no)?)
 }
 

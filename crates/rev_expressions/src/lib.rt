@@ -12,6 +12,6 @@ mod laws;
 mod source;
 
 pub use cursor::{Cursor, TreeFault, within};
-pub use expression::{arguments, begins_expr, bracketed, expr, name};
+pub use expression::{arguments, begins_expr, bracketed, expr, expr_before, name};
 pub use laws::{Grammar, parser_is_exact};
 pub use source::SourceText;

@@ -111,13 +111,13 @@ fn changes_of(
 
 /// The part of the revision at this path, whose locations have these places. Its path is moved and
 /// not copied.
-pub fn part_of<'a>(
+pub fn part_of(
     alloc: Global,
     places: &[Bytes],
     path: Path,
-    local: Local<'a>,
+    local: &Local<'_>,
 ) -> Result<Part, AllocError>
-    ensures { IfOk result (λ p. p ≡ part_by places.now path local.entry) }
+    ensures { IfOk result (λ p. p ≡ part_by places.now path local.now) }
 {
     let events = Items::from_vec(events_of(alloc, local.noted())?);
     let end = end_of(alloc, places, local.trap())?;

@@ -1,4 +1,4 @@
--- Answers of emit: a typed program fits all tables, and each part that is made is that part of its code.
+-- Answers of emit: a typed program fits all tables, and its names mean in them what they mean outside of procedures.
 use Rattle.std.proofs.Common.{◌∙◌, [], false, map, ap, refl, sym, subst, arith}
 use Rattle.rev_syntax.specs.View.{declaration, program as whole}
 use Rattle.rev_kinds.specs.declared.names.Checker.{Checker}
@@ -39,27 +39,8 @@ name_numbers-requires-clause-vars c = (typed_fits c.args.typed.now).variables
 pub name_numbers-requires-clause-blocks : goal.name_numbers-requires-clause-blocks
 name_numbers-requires-clause-blocks c = (typed_fits c.args.typed.now).blocks
 
-pub emit_values-requires : goal.emit_values-requires
-emit_values-requires c =
-    let n = numbers_of c.in_ok-numbers.numbers in
-    subst (λ l. DeclarationsFit n (map declaration l)) (sym c.deref-3.ensures.value)
-    (declarations_by (whole c.args.typed.now.expanded.program) n c.in_ok-numbers.ensures (typed_fits c.args.typed.now))
-
-pub emit_bodies-requires-clause-declarations : goal.emit_bodies-requires-clause-declarations
-emit_bodies-requires-clause-declarations c =
-    declarations_by (whole c.args.typed.now.expanded.program) (numbers_of c.in_ok-numbers.numbers)
-    c.in_ok-numbers.ensures (typed_fits c.args.typed.now)
-
-pub emit_bodies-requires-clause-main : goal.emit_bodies-requires-clause-main
-emit_bodies-requires-clause-main c =
-    main_by (whole c.args.typed.now.expanded.program) (numbers_of c.in_ok-numbers.numbers) c.in_ok-numbers.ensures
-    (typed_fits c.args.typed.now)
-
-pub emit_bodies-requires-clause-texts : goal.emit_bodies-requires-clause-texts
-emit_bodies-requires-clause-texts c = (typed_fits c.args.typed.now).texts
-
-pub emit_bodies-requires-clause-layouts : goal.emit_bodies-requires-clause-layouts
-emit_bodies-requires-clause-layouts c =
+pub emit_numbered-requires-clause-named : goal.emit_numbered-requires-clause-named
+emit_numbered-requires-clause-named c =
     let p = whole c.args.typed.now.expanded.program in
     let checker : Checker = record {
       shared = record { ref_ptr = (0, 0); now = c.in_ok-names.names.shared };
@@ -68,31 +49,7 @@ emit_bodies-requires-clause-layouts c =
       inside = false;
     } in
     let v = c.deref-2.ensures.value in
-    let names = outer_names checker p.declarations refl
+    outer_names checker p.declarations refl
     (c.in_ok-names.ensures.shared ∙ ap (λ l. shared_table [] (map declaration l)) v)
     (c.in_ok-names.ensures.procs ∙ ap (λ l. proc_table [] (map declaration l)) v)
-    (c.in_ok-names.ensures.funs ∙ ap (λ l. fun_table [] (map declaration l)) v) in
-    layouts_by p (names_of checker) names (typed_fits c.args.typed.now)
-
-pub returns : goal.returns
-returns c =
-    let p = whole c.args.typed.now.expanded.program in
-    let checker : Checker = record {
-      shared = record { ref_ptr = (0, 0); now = c.in_ok-names.names.shared };
-      procs = record { ref_ptr = (0, 0); now = c.in_ok-names.names.procs };
-      funs = record { ref_ptr = (0, 0); now = c.in_ok-names.names.funs };
-      inside = false;
-    } in
-    let v = c.deref-2.ensures.value in
-    let names = outer_names checker p.declarations refl
-    (c.in_ok-names.ensures.shared ∙ ap (λ l. shared_table [] (map declaration l)) v)
-    (c.in_ok-names.ensures.procs ∙ ap (λ l. proc_table [] (map declaration l)) v)
-    (c.in_ok-names.ensures.funs ∙ ap (λ l. fun_table [] (map declaration l)) v) in
-    let n = numbers_of c.in_ok-numbers.numbers in
-    whole_code p n (names_of checker) c.in_ok-vars.vars c.from_vec.result c.from_vec-2.result
-    c.in_ok-blocks.blocks.items c.from_vec-3.result
-    c.in_ok-numbers.ensures names c.in_ok-vars.ensures
-    (c.from_vec.ensures ∙ c.in_ok-listed.ensures.texts)
-    (c.from_vec-2.ensures ∙ c.in_ok-listed.ensures.layouts)
-    (c.in_ok-blocks.ensures ∙ ap (λ l. value_blocks n (map declaration l)) c.deref-3.ensures.value)
-    (c.from_vec-3.ensures ∙ c.in_ok-listed.ensures.blocks)
+    (c.in_ok-names.ensures.funs ∙ ap (λ l. fun_table [] (map declaration l)) v)

@@ -78,12 +78,6 @@ parenthesized-returns-in_err-e t c =
     c.args.cursor.now.rest.now c.in_ok-inner.ensures in
     grind (arith, common_steps, h)
 
-pub parenthesized-returns-in_err-expect : goal.parenthesized-returns-in_err-expect
-parenthesized-returns-in_err-expect t c =
-    let h = parens_go c.args.source.now.bytes.now c.args.levels (spec.moved c.args.at) c.in_ok-inner.inner
-    c.args.cursor.now.rest.now c.in_ok-inner.ensures in
-    grind (arith, common_steps, h)
-
 pub parenthesized-returns : goal.parenthesized-returns
 parenthesized-returns t c =
     let h = parens_go c.args.source.now.bytes.now c.args.levels (spec.moved c.args.at) c.in_ok-inner.inner
@@ -177,14 +171,6 @@ pick-returns-in_err-test t c =
     c.in_ok-inner.ensures in
     grind (arith, common_steps, h)
 
-pub pick-returns-in_err-expect : goal.pick-returns-in_err-expect
-pick-returns-in_err-expect t c =
-    let e : is_next spec.alphabet (class.fixed s.OpenParen) c.args.cursor.now.rest.now ≡ true = search rules in
-    let h = choice_yes c.args.source.now.bytes.now c.args.levels c.args.at c.args.cursor.now.rest.now e
-    ∙ parts_go c.args.source.now.bytes.now c.args.levels c.args.at c.in_ok-inner.inner c.args.cursor.now.rest.now
-    c.in_ok-inner.ensures in
-    grind (arith, common_steps, h)
-
 pub pick-returns-in_err-yes : goal.pick-returns-in_err-yes
 pick-returns-in_err-yes t c =
     let e : is_next spec.alphabet (class.fixed s.OpenParen) c.args.cursor.now.rest.now ≡ true = search rules in
@@ -193,24 +179,8 @@ pick-returns-in_err-yes t c =
     c.in_ok-inner.ensures in
     grind (arith, common_steps, h)
 
-pub pick-returns-in_err-expect-2 : goal.pick-returns-in_err-expect-2
-pick-returns-in_err-expect-2 t c =
-    let e : is_next spec.alphabet (class.fixed s.OpenParen) c.args.cursor.now.rest.now ≡ true = search rules in
-    let h = choice_yes c.args.source.now.bytes.now c.args.levels c.args.at c.args.cursor.now.rest.now e
-    ∙ parts_go c.args.source.now.bytes.now c.args.levels c.args.at c.in_ok-inner.inner c.args.cursor.now.rest.now
-    c.in_ok-inner.ensures in
-    grind (arith, common_steps, h)
-
 pub pick-returns-in_err-no : goal.pick-returns-in_err-no
 pick-returns-in_err-no t c =
-    let e : is_next spec.alphabet (class.fixed s.OpenParen) c.args.cursor.now.rest.now ≡ true = search rules in
-    let h = choice_yes c.args.source.now.bytes.now c.args.levels c.args.at c.args.cursor.now.rest.now e
-    ∙ parts_go c.args.source.now.bytes.now c.args.levels c.args.at c.in_ok-inner.inner c.args.cursor.now.rest.now
-    c.in_ok-inner.ensures in
-    grind (arith, common_steps, h)
-
-pub pick-returns-in_err-expect-3 : goal.pick-returns-in_err-expect-3
-pick-returns-in_err-expect-3 t c =
     let e : is_next spec.alphabet (class.fixed s.OpenParen) c.args.cursor.now.rest.now ≡ true = search rules in
     let h = choice_yes c.args.source.now.bytes.now c.args.levels c.args.at c.args.cursor.now.rest.now e
     ∙ parts_go c.args.source.now.bytes.now c.args.levels c.args.at c.in_ok-inner.inner c.args.cursor.now.rest.now

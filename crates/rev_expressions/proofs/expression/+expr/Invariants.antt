@@ -28,8 +28,8 @@ decreases-more_arguments l = 40 * l.levels + 31
 abbrev pub decreases-bracketed : goal.decreases-bracketed
 decreases-bracketed l = 40 * l.levels + 1
 
-abbrev pub decreases-index : goal.decreases-index
-decreases-index l = 40 * l.levels + 30
+abbrev pub decreases-expr_before : goal.decreases-expr_before
+decreases-expr_before l = 40 * l.levels + 30
 
 abbrev pub decreases-parenthesized : goal.decreases-parenthesized
 decreases-parenthesized l = 40 * l.levels + 1
