@@ -6,7 +6,7 @@ use Rattle.version_map.specs.Deltas.{at}
 use Rattle.version_map.specs.Overlay as overlay
 use Rattle.code_machine.specs.Local.{CodeRun}
 use Rattle.code_reads.specs.Legs.{leg_reads}
-use Rattle.leg_run.specs.Noting.{Noted, HasMarked, marks_of}
+use Rattle.leg_run.specs.Noting.{ReadMarks, HasMarked, marks_of}
 use Rattle.leg_run.specs.declared.revision.Run.{Run}
 use Rattle.leg_run.specs.Standing.{state_of}
 use Rattle.leg_run.proofs.Decoding.{its_state}
@@ -14,7 +14,7 @@ use Rattle.rev_vm.specs.Meaning.{IsAt}
 
 -- it is that of each state for which the revision stands
 pub noted_at : (g : CodeRun) (run : Run) (delta : Delta) (base : ℕ → ℕ) (first : Delta) (c : State ℕ)
-    → IsAt g run delta base first c → (old new : Noted)
+    → IsAt g run delta base first c → (old new : ReadMarks)
     → HasMarked old new (marks_of (leg_reads g (state_of g.code run (overlay.under delta base) (at first))))
     → HasMarked old new (marks_of (leg_reads g c))
 noted_at g run delta base first c h old new k =
