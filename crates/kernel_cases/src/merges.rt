@@ -8,7 +8,7 @@ ghost use Rattle.kernel_cases.specs.Versioned.{versioned};
 
 use merge_kernels::{KernelPlan, by_kernel, by_row};
 use rev_num::NumFault;
-use version_map::MergeBy;
+use version_map::{MergeBy, Written};
 
 /// So many locations, of which those with a choice are merged by its kernel, and each other one
 /// takes the joinee's word.
@@ -49,5 +49,14 @@ impl<'k> MergeBy for PlanMerges<'k> {
             Some(row) => by_row(row, main, join, root),
             None => None,
         }
+    }
+    fn merge_eights(
+        &mut self,
+        mains: &[u64],
+        written: &[Written],
+        at: usize,
+        values: &mut [u64],
+    ) -> usize {
+        self.plan.merge_eights(mains, written, at, values)
     }
 }

@@ -11,3 +11,5 @@ pub mod RowChoices
 pub mod LevelRows
 pub mod RowWords
 pub mod SharedKernels
+pub mod WordPairs
+pub mod RowRuns

@@ -16,7 +16,7 @@ step (Ok z) (Some xs) = refl
 step (Ok z) None = refl
 step (Err f) o = refl
 
-row_is : (e : Expression) (m : Merges ℕ) (l : ℕ) (xs ys zs : List ℕ)
+pub row_is : (e : Expression) (m : Merges ℕ) (l : ℕ) (xs ys zs : List ℕ)
     → ((k : ℕ) → k < length xs → (u v w : ℕ) → m (l + k) u v w ≡ merged e u v w)
     → merged_row m l xs ys zs ≡ merged_lanes e xs ys zs
 row_is e m l [] ys zs by = refl

@@ -13,7 +13,7 @@ use Rattle.std.specs.contracts.dyn_box.DynBox as Dyn
 use Rattle.std.specs.contracts.vec.Vec as Vec
 use Rattle.std.specs.contracts.option.Option as choice
 use denote.Array.{Array}
-use denote.Builtin.{bool, u32}
+use denote.Builtin.{u32}
 use Rattle.std.specs.contracts.alloc.Global as Heap
 use Rattle.std.specs.contracts.impls.GlobalAllocator.TheImpl.{ghosts}
 use Rattle.rev_num.specs.declared.value.NumFault.{NumFault}
@@ -61,8 +61,8 @@ module _ (T U : RattleType) (g : Ghosts T.Denot) (h : Ghosts U.Denot) (s : Syncs
   plan_field_sync l =
       let list : IsSync (Vec.the_field (choice.the_row u32) Heap.the_row ghosts).row =
       Vec-sync (choice.the_row u32) (search (sendable, crosses) depth 9) in
-      let flags : IsSync (Array bool 64) = search sendable in
-      let one = kernel_sync in search (sendable, crosses, list, flags, one) depth 14
+      let level : IsSync (Array u32 64) = search sendable in
+      let one = kernel_sync in search (sendable, crosses, list, level, one) depth 14
 
   pub plan_sync : (l : NamedLft) → IsSync (Plan.the_row l T U g h m n)
   plan_sync l = let one = plan_field_sync l in search (sendable, one) depth 12

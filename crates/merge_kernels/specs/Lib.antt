@@ -12,3 +12,4 @@ pub mod Lists
 pub mod Three
 pub mod Plans
 pub mod Words
+pub mod Rows

@@ -7,7 +7,7 @@
 --   has_row      whether they have one, of a kernel with a row
 --   IsRowFor     this definition was chosen for each of them
 --   AreLike      so many locations from this one on have what the first of them has, a choice or none
---   AreLevel     where a row of 64 locations is told of, its locations are alike
+--   AreLevel     of each row of 64 locations, so many from its first on are alike as are told
 use Rattle.std.specs.Prelude.{◌≡◌, ◌<◌, ◌≤◌, ◌+◌, ◌*◌, ℕ, Bool, true, false, ◌&&◌, nat_eq, nat_lt, if◌then◌else◌, List, [], ◌∷◌, take, drop, length, Option, Some, None, slice_get, option_and_then}
 use Rattle.rev_syntax.specs.Trees.{Expression}
 
@@ -63,5 +63,5 @@ abbrev pub AreLike : List (Option ℕ) → (first n : ℕ) → Type 0
 AreLike choices first n =
     (first + n ≤ length choices) × ((k : ℕ) → k < n → choice_at choices (first + k) ≡ choice_at choices first)
 
-abbrev pub AreLevel : (told : List Bool) → List (Option ℕ) → Type 0
-AreLevel told choices = (row : ℕ) → slice_get told row ≡ Some true → AreLike choices (64 * row) 64
+abbrev pub AreLevel : (told : List ℕ) → List (Option ℕ) → Type 0
+AreLevel told choices = (row n : ℕ) → slice_get told row ≡ Some n → 0 < n → AreLike choices (64 * row) n

@@ -1,12 +1,13 @@
 //! A closure beside the definition whose value it answers, and one for eight lanes.
 
-ghost use Rattle.std.specs.Prelude.{◌≡◌, IfSome, None, Some, is_some, true};
+ghost use Rattle.std.specs.Prelude.{◌≡◌, ◌≤◌, ◌+◌, IfSome, None, Some, is_some, false, length, true};
 ghost use Rattle.merge_kernels.specs.Answering.{Answers, RowAnswers};
 ghost use Rattle.merge_kernels.specs.Equal.{equal};
 ghost use Rattle.merge_kernels.specs.Lanes.{lanes_answer};
+ghost use Rattle.merge_kernels.specs.Rows.{HasPutValues};
 ghost use Rattle.merge_kernels.specs.Terms.{answer_of, definition};
 
-use crate::lanes::note_lanes;
+use crate::lanes::{note_lanes, put_lanes};
 use crate::term::MergeDef;
 use rev_num::NumFault;
 
@@ -37,6 +38,7 @@ impl RowKernel {
     }
 
     /// The values of the definition for eight lanes, or none where one faults.
+    #[inline(always)]
     pub fn call(&self, main: [i64; 8], join: [i64; 8], root: [i64; 8]) -> Option<[i64; 8]>
         ensures { result ≡ lanes_answer (answer_of (definition self.now.def)) main join root }
     {
@@ -44,6 +46,33 @@ impl RowKernel {
         note_lanes(&join);
         note_lanes(&root);
         (self.run)(main, join, root)
+    }
+
+    /// Puts the words of the values of the definition for eight lanes from this place on, and tells
+    /// whether it did. Where a lane faults it changes nothing.
+    #[inline(always)]
+    pub(crate) fn put(
+        &self,
+        main: [i64; 8],
+        join: [i64; 8],
+        root: [i64; 8],
+        values: &mut [u64],
+        at: usize,
+    ) -> bool
+        requires { at + 8 ≤ length values.old }
+        ensures length { length values.new ≡ length values.old }
+        ensures kept { result ≡ false → values.new ≡ values.old }
+        ensures put { result ≡ true → HasPutValues
+            (lanes_answer (answer_of (definition self.now.def)) main join root) at
+            values.old values.new }
+    {
+        match self.call(main, join, root) {
+            Some(ints) => {
+                put_lanes(&ints, values, at);
+                true
+            },
+            None => false,
+        }
     }
 }
 

@@ -1,11 +1,13 @@
 //! Eight sums at once, by lanes.
 
-ghost use Rattle.std.specs.Prelude.{◌≡◌, FitsSigned, length};
+ghost use Rattle.std.specs.Prelude.{◌≡◌, ◌≤◌, ◌+◌, ◌++◌, FitsSigned, length, map, take};
 ghost use Rattle.std.specs.Int.{w64};
+ghost use Rattle.rev_num.specs.Words.{word_of};
 ghost use Rattle.merge_kernels.specs.Lanes.{AreLanes, lanes_answer};
 ghost use Rattle.merge_kernels.specs.Terms.{answer_of};
 ghost use Rattle.merge_kernels.specs.Three.{sum_expression};
 
+use rev_num::word_of_int;
 use std::simd::prelude::*;
 
 /// A number tells that it has 64 bits.
@@ -44,5 +46,17 @@ pub fn sum_lanes(main: [i64; 8], join: [i64; 8], root: [i64; 8]) -> Option<[i64;
         None
     } else {
         Some(all.to_array())
+    }
+}
+
+/// Puts the words of eight numbers from this place on.
+#[inline(always)]
+pub(crate) fn put_lanes(ints: &[i64; 8], values: &mut [u64], at: usize)
+    requires { at + 8 ≤ length values.old }
+    ensures length { length values.new ≡ length values.old }
+    ensures put { take (at + 8) values.new ≡ take at values.old ++ map word_of ints.now }
+{
+    for k in 0..8usize {
+        values[at + k] = word_of_int(ints[k]);
     }
 }

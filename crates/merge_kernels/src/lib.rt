@@ -2,6 +2,7 @@
 #![tactic(auto)]
 
 mod closing;
+mod eights;
 mod equal;
 mod finding;
 mod kernel;

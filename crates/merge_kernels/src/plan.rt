@@ -1,6 +1,6 @@
 //! Which kernel merges which location.
 
-ghost use Rattle.std.specs.Prelude.{◌≡◌, ◌≤◌, ◌+◌, ◌*◌, IfSome, MatchBool, None, Some, true, drop, is_some, length, map, option_map, take};
+ghost use Rattle.std.specs.Prelude.{◌≡◌, ◌<◌, ◌≤◌, ◌+◌, ◌*◌, IfSome, MatchBool, None, Some, true, drop, is_some, length, map, option_map, take};
 ghost use Rattle.std.specs.Option.{option_copied};
 ghost use Rattle.merge_kernels.specs.Plans.{AreWithin, IsRowFor, choice_at, chosen_at, has_row, have, row_choice};
 ghost use Rattle.merge_kernels.specs.Plans.{AreLevel, AreLike};
@@ -14,8 +14,9 @@ use crate::kernel::{Kernel, RowKernel};
 #[derive(Drop)]
 pub struct KernelPlan<'k> {
     choices: Vec<Option<u32>>,
-    // For each of the first 64 rows of 64 locations whether they have one choice, or none at all.
-    level: [bool; 64],
+    // For each of the first 64 rows of 64 locations, of how many locations from the first of the
+    // row on it is known that they have one choice, or none at all.
+    level: [u32; 64],
     kernels: &'k [Kernel],
     ghost within: { AreWithin choices.items (map (λ k. definition k.def) kernels.now) },
     ghost levels: { AreLevel level choices.items },
@@ -96,20 +97,36 @@ impl<'k> KernelPlan<'k> {
         ensures { MatchBool result (row_choice self.now.choices.items first ≡ Some n)
             (row_choice self.now.choices.items first ≡ None) }
     {
-        if self.is_in_level_row(first) {
+        if self.level_from(first) >= 8 {
             return true;
         }
         self.have_eight(first, n)
     }
 
-    /// Whether the eight locations from this one on are of one row, which is known to have one
-    /// choice.
+    /// Of how many locations from this one on it is known that they have one choice, or none at
+    /// all. It is 0 where nothing is known.
     #[inline(always)]
-    fn is_in_level_row(&self, first: u32) -> bool
-        ensures { result ≡ true → AreLike self.now.choices.items first 8 }
+    pub(crate) fn level_from(&self, first: u32) -> u32
+        ensures { 0 < result → AreLike self.now.choices.items first result }
     {
         let row = first as usize / 64;
-        first % 64 <= 56 && row < 64 && self.level[row]
+        if row >= 64 {
+            return 0;
+        }
+        self.level[row].saturating_sub(first % 64)
+    }
+
+    /// The row of the kernel that was chosen for this location, if it has one.
+    #[inline(always)]
+    pub(crate) fn row_of(&self, location: u32) -> Option<&RowKernel>
+        ensures { IfSome result (λ r. chosen_at self.now.choices.items
+            (map (λ k. definition k.def) self.now.kernels.now) location
+            ≡ Some (definition r.now.def)) }
+    {
+        match self.at(location) {
+            Some(kernel) => kernel.row(),
+            None => None,
+        }
     }
 
     /// The same as `is_one_choice`, by a look at each of the eight.
@@ -127,16 +144,37 @@ impl<'k> KernelPlan<'k> {
     }
 }
 
-/// Of each of the first 64 rows of 64 locations, whether they have one choice, or none at all.
-fn level_rows(choices: &[Option<u32>]) -> [bool; 64]
+/// Of each of the first 64 rows of 64 locations, how many locations from its first on have one
+/// choice, or none at all, as far as whole rows tell: 0 where the row has several.
+fn level_rows(choices: &[Option<u32>]) -> [u32; 64]
     ensures { AreLevel result choices.now }
 {
-    let mut rows = [false; 64];
+    let mut rows = [0u32; 64];
     let count = (choices.len() / 64).min(64);
-    for row in 0..count {
-        rows[row] = is_level(choices, row);
+    let mut behind = 0;
+    for k in 0..count {
+        let row = count - 1 - k;
+        behind = level_with(choices, row, behind);
+        rows[row] = behind;
     }
     rows
+}
+
+/// The same of one row, where so many locations behind it are alike.
+fn level_with(choices: &[Option<u32>], row: usize, behind: u32) -> u32
+    requires inside { 64 * row + 64 ≤ length choices.now }
+    requires behind { 0 < behind → AreLike choices.now (64 * row + 64) behind }
+    requires few { behind ≤ 4_096 }
+    ensures level { 0 < result → AreLike choices.now (64 * row) result }
+    ensures few { result ≤ behind + 64 }
+{
+    if !is_level(choices, row) {
+        return 0;
+    }
+    if behind > 0 && choices[64 * row] == choices[64 * row + 64] {
+        return behind + 64;
+    }
+    64
 }
 
 /// Whether the 64 locations of a row have one choice, or none at all.

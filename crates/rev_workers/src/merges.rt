@@ -7,7 +7,7 @@ ghost use Rattle.merge_kernels.specs.Words.{Agrees, AreAlike, overlaid};
 
 use merge_kernels::{KernelPlan, by_kernel, by_row};
 use rev_num::NumFault;
-use version_map::MergeBy;
+use version_map::{MergeBy, Written};
 
 /// The merges of another, of which those at locations with a choice are made by kernels.
 #[derive(Drop)]
@@ -65,5 +65,14 @@ impl<'k, M: MergeBy> MergeBy for KernelMerges<'k, M> {
             Some(row) => by_row(row, main, join, root),
             None => None,
         }
+    }
+    fn merge_eights(
+        &mut self,
+        mains: &[u64],
+        written: &[Written],
+        at: usize,
+        values: &mut [u64],
+    ) -> usize {
+        self.plan.merge_eights(mains, written, at, values)
     }
 }

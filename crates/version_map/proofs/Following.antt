@@ -1,6 +1,6 @@
 -- Written locations that follow each other, in ascending order.
 --   climbs    a location that stands n places later is n higher, or more
---   between   eight of which the last is the first and 7 more follow each other
+--   between   so many follow each other where the last of them is as far from the first as that
 use Rattle.std.proofs.Common.{◌≡◌, ◌∙◌, ap, sym, ℕ, zero, suc, ◌+◌, ◌-◌, ◌<◌, ◌≤◌, List, length, drop, get_or, Some, arith}
 use Rattle.std.specs.Prelude.{slice_get}
 use Rattle.std.proofs.lemmas.List.{get_or-drop}
@@ -32,11 +32,11 @@ here ws at k w is =
     ap (λ (u : Written). u.location)
     (sym (get_or_from_slice_get (drop at ws) k w no_entry is) ∙ get_or-drop at ws k no_entry)
 
-pub between : (ws : List Written) (at first : ℕ) → IsAscending ws → at + 8 ≤ length ws
-    → location_at ws at ≡ first → location_at ws (at + 7) ≡ first + 7 → Follow (drop at ws) first 8
-between ws at first ascend room low high k w lt is =
-    let up = climbs ws ascend at k (omega arith) in
-    let down = climbs ws ascend (at + k) (7 - k) (omega arith) in
-    let last : at + k + (7 - k) ≡ at + 7 = omega arith in
+pub between : (ws : List Written) (at first n : ℕ) → IsAscending ws → at + n ≤ length ws
+    → location_at ws at ≡ first → location_at ws (at + n - 1) ≡ first + n - 1 → Follow (drop at ws) first n
+between ws at first n ascend room low high k w lt is =
+    let up = climbs ws ascend at k (omega (arith, room, lt)) in
+    let down = climbs ws ascend (at + k) (n - 1 - k) (omega (arith, room, lt)) in
+    let last : at + k + (n - 1 - k) ≡ at + n - 1 = omega (arith, lt) in
     let there = ap (location_at ws) last in
     let same = here ws at k w is in omega (arith, up, down, there, same, low, high, lt)

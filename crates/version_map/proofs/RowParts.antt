@@ -1,6 +1,6 @@
 -- A row is a part of a composition.
 use Rattle.std.proofs.Common.{◌≡◌, ◌∙◌, ap, sym, refl, subst, Bool, true, false, ℕ, zero, suc, ◌+◌, ◌<◌, ◌≤◌, List, [], ◌∷◌, ◌++◌, length, take, drop, map, get_or, All, Option, Some, None, Result, Ok, Err, arith}
-use Rattle.std.proofs.lemmas.List.{drop_all, length-drop, get_or-drop}
+use Rattle.std.proofs.lemmas.List.{drop_all, length-drop, get_or-drop, length-append, append_assoc, append-nil}
 use Rattle.std.proofs.lemmas.List.Elements.{All-get_or}
 use Rattle.std.proofs.lemmas.Option.{slice_get-get_or}
 use Rattle.std.specs.Prelude.{IfSome}
@@ -8,7 +8,7 @@ use Rattle.rev_num.specs.declared.value.NumFault.{NumFault}
 use Rattle.version_map.specs.declared.end.Written.{Written}
 use Rattle.version_map.specs.Composing.{Merges, Composition, composed, entries, and_later, before_later}
 use Rattle.version_map.specs.Eights.{and_words, merged_row, merged_eight}
-use Rattle.version_map.specs.Parts.{before, IsPart}
+use Rattle.version_map.specs.Parts.{before, IsPart, HasPut}
 use Rattle.version_map.specs.Following.{Follow}
 
 pub drop_drop : {A : Type 0} (i n : ℕ) (xs : List A) → drop n (drop i xs) ≡ drop (i + n) xs
@@ -117,3 +117,39 @@ row_within ws at first size z k follow all =
     let there : w.location ≡ (get_or ws (at + 7) z).location =
     ap (λ (u : Written). u.location) (get_or-drop at ws 7 z) in
     omega arith
+
+-- a part is put behind what has been put
+pub put_more : (m : Merges ℕ) (mains : List ℕ) (ws : List Written) (at n k : ℕ) (old mid new part : List ℕ)
+    → HasPut m mains ws at n old mid → IsPart m mains ws (at + n) k part
+    → take (at + n + k) new ≡ take (at + n) mid ++ part
+    → HasPut m mains ws at (n + k) old new
+put_more m mains ws at n k old mid new part (known, (many, is), put) (more, next) so =
+    let there : at + n + k ≡ at + (n + k) = omega arith in (
+      known ++ part,
+      (
+        length-append known part ∙ (λ i. many i + more i),
+        is ∙ (ap (before known) next ∙ before_both m known part _)
+            ∙ (λ i. before (known ++ part) (left m (drop (there i) mains) (drop (there i) ws))),
+      ),
+      ap (λ j. take j new) (sym there) ∙ (so ∙ (ap (λ xs. xs ++ part) put ∙ append_assoc (take at old) known part)),
+    )
+
+-- nothing is put
+pub none_put : (m : Merges ℕ) (mains : List ℕ) (ws : List Written) (at : ℕ) (values : List ℕ)
+    → HasPut m mains ws at 0 values values
+none_put m mains ws at values =
+    let here : at + 0 ≡ at = omega arith in (
+      [],
+      (refl, λ i. left m (drop (sym here i) mains) (drop (sym here i) ws)),
+      ap (λ j. take j values) here ∙ sym (append-nil (take at values)),
+    )
+
+-- what stands before the place is the same, so what is put behind it is put
+pub put_behind : (m : Merges ℕ) (mains : List ℕ) (ws : List Written) (at n : ℕ) (old mid new : List ℕ)
+    → HasPut m mains ws at 0 old mid → HasPut m mains ws at n mid new → HasPut m mains ws at n old new
+put_behind m mains ws at n old mid new first then =
+    let both = put_more m mains ws at 0 n old mid new then.0 first
+    (subst (λ j. IsPart m mains ws j n then.0) (let e : at ≡ at + 0 = omega arith in e) then.1)
+    (let e : at + 0 + n ≡ at + n = omega arith in let z : at ≡ at + 0 = omega arith in
+    ap (λ j. take j new) e ∙ (then.2 ∙ ap (λ j. take j mid ++ then.0) z)) in
+    subst (λ j. HasPut m mains ws at j old new) (let e : 0 + n ≡ n = omega arith in e) both

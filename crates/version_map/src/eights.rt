@@ -1,6 +1,6 @@
 //! Eight words, and eight written locations that follow each other.
 
-ghost use Rattle.std.specs.Prelude.{◌≡◌, ◌≤◌, ◌+◌, ◌++◌, ◌^◌, true, false, drop, length, map, take};
+ghost use Rattle.std.specs.Prelude.{◌≡◌, ◌<◌, ◌≤◌, ◌+◌, ◌++◌, ◌^◌, true, false, drop, length, map, take};
 ghost use Rattle.version_map.specs.Ascending.{IsAscending};
 ghost use Rattle.version_map.specs.Following.{Follow};
 
@@ -42,16 +42,18 @@ pub fn eight_roots(written: &[Written], at: usize) -> [u64; 8]
     eight
 }
 
-/// Whether eight written locations follow each other, from this place and this location on. They
+/// Whether so many written locations follow each other, from this place and this location on. They
 /// ascend, so the first and the last of them tell.
-pub fn follow(written: &[Written], at: usize, first: u32) -> bool
-    requires within { at + 8 ≤ length written.now }
+pub fn follow(written: &[Written], at: usize, first: u32, many: u32) -> bool
+    requires within { at + many ≤ length written.now }
+    requires some { 0 < many }
     requires ascending { IsAscending written.now }
-    ensures run { result ≡ true → Follow (drop at written.now) first 8 }
-    ensures short { result ≡ true → first + 8 ≤ 2 ^ 32 }
-    ensures apart { result ≡ false → Follow (drop at written.now) first 8 → ⊥ }
+    ensures run { result ≡ true → Follow (drop at written.now) first many }
+    ensures short { result ≡ true → first + many ≤ 2 ^ 32 }
+    ensures apart { result ≡ false → Follow (drop at written.now) first many → ⊥ }
 {
-    if written[at].location != first || written[at + 7].location as u64 != first as u64 + 7 {
+    let last = written[at + many as usize - 1].location;
+    if written[at].location != first || last as u64 != first as u64 + many as u64 - 1 {
         return false;
     }
     true

@@ -12,6 +12,7 @@ mod snapshot;
 mod whole;
 
 pub use delta::{Delta, mask_rows};
+pub use eights::{eight_roots, eight_values, eight_words, follow};
 pub use end::{CodeTrap, EndValue, Finish, Written};
 pub use first::First;
 pub use joining::{MergeBy, MergeTrap, compose};

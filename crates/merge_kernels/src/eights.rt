@@ -1,0 +1,91 @@
+//! Eights of written locations that a plan merges by one row.
+
+ghost use Rattle.std.specs.Prelude.{◌≡◌, ◌<◌, ◌≤◌, ◌+◌, ◌*◌, ℕ, drop, length, map};
+ghost use Rattle.version_map.specs.Ascending.{IsAscending};
+ghost use Rattle.version_map.specs.Composing.{Merges};
+ghost use Rattle.version_map.specs.Following.{Follow};
+ghost use Rattle.version_map.specs.Parts.{HasPut};
+ghost use Rattle.merge_kernels.specs.Rows.{AreValues};
+ghost use Rattle.merge_kernels.specs.Terms.{definition};
+ghost use Rattle.merge_kernels.specs.Words.{overlaid};
+
+use crate::kernel::RowKernel;
+use crate::plan::KernelPlan;
+use crate::words::put_by_row;
+use version_map::{Written, follow};
+
+impl<'k> KernelPlan<'k> {
+    /// Puts the merges of eights of written locations from this place on, behind one another, and
+    /// tells of how many locations that is: as many as follow each other, have one kernel with a
+    /// row, and stand before an eight with a fault, as far as the plan knows. Others of the first
+    /// eight may be there too, so 0 says nothing.
+    pub fn merge_eights(
+        &self,
+        mains: &[u64],
+        written: &[Written],
+        at: usize,
+        values: &mut [u64],
+    ) -> usize
+        requires mains { length mains.now ≡ length written.now }
+        requires values { length values.old ≡ length written.now }
+        requires ascending { IsAscending written.now }
+        requires here { at < length written.now }
+        ensures length { length values.new ≡ length values.old }
+        ensures inside { at + result ≤ length written.now }
+        ensures put { (inner : Merges ℕ) → HasPut (overlaid self.now.choices.items
+            (map (λ k. definition k.def) self.now.kernels.now) inner) mains.now written.now at result
+            values.old values.new }
+    {
+        let first = written[at].location;
+        let Some(row) = self.row_of(first) else {
+            return 0;
+        };
+        let many = following(written, at, first, self.level_from(first));
+        8 * put_eights(row, mains, written, at, many as usize / 8, values)
+    }
+}
+
+/// Of at most so many, of 64 and of eight written locations, the greatest number that follow each
+/// other from this place and this location on, or 0.
+fn following(written: &[Written], at: usize, first: u32, most: u32) -> u32
+    requires here { at < length written.now }
+    requires ascending { IsAscending written.now }
+    ensures most { result ≤ most }
+    ensures inside { at + result ≤ length written.now }
+    ensures run { Follow (drop at written.now) first result }
+{
+    let most = (written.len() - at).min(most as usize) as u32;
+    for many in [most, 64, 8] {
+        if 0 < many && many <= most && follow(written, at, first, many) {
+            return many;
+        }
+    }
+    0
+}
+
+/// Puts the merges of so many eights of written locations from this place on by the definition of a
+/// row, up to the first that has a fault, and tells of how many.
+fn put_eights(
+    row: &RowKernel,
+    mains: &[u64],
+    written: &[Written],
+    at: usize,
+    eights: usize,
+    values: &mut [u64],
+) -> usize
+    requires mains { length mains.now ≡ length written.now }
+    requires values { length values.old ≡ length written.now }
+    requires inside { at + 8 * eights ≤ length written.now }
+    ensures length { length values.new ≡ length values.old }
+    ensures most { result ≤ eights }
+    ensures put { (merges : Merges ℕ) (first : ℕ) → Follow (drop at written.now) first (8 * eights)
+        → AreValues (definition row.now.def) merges first (8 * eights)
+        → HasPut merges mains.now written.now at (8 * result) values.old values.new }
+{
+    for eight in 0..eights {
+        if !put_by_row(row, mains, written, at + 8 * eight, values) {
+            return eight;
+        }
+    }
+    eights
+}
