@@ -14,7 +14,7 @@ phase (Joining on left) = state.joining on (option_copied left)
 phase Done = state.done
 phase (Trapped t) = state.trapped t
 
-abbrev pub noted : held_noted.Noted → state.Noted
+abbrev pub noted : held_noted.ForkOrJoin → state.Noted
 noted (Forked q line) = state.forked q line
 noted (Joined q line) = state.joined q line
 
