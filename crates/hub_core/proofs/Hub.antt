@@ -174,6 +174,14 @@ module _ (N : Numbered) (V : Values N) where
         let h = out_has schedule hub fs t k p.state out p.stands in
         turn schedule hub fs t k (Waiting a) (h.0, Plain p.state) h.1 (p.state, refl, p.comes)
 
+    -- a revision before its leg that is handed back
+    pub back : (schedule : List ℕ) (hub : Statuses N V) (fs : List ℕ) → T schedule hub fs → (k : ℕ) (c : V.Runner)
+        → at_number hub k ≡ Some Out → state_after N main schedule k ≡ Some (V.runs c)
+        → T schedule (put_number hub k (Ready c)) fs
+    back schedule hub fs t k c out here =
+        let h = out_has schedule hub fs t k (V.runs c) out here in
+        turn schedule hub fs t k (Ready c) (h.0, Plain (V.runs c)) h.1 refl
+
     -- a join of one that has ended: the pass has the state after it
     pub joined : (schedule : List ℕ) (hub : Statuses N V) (fs : List ℕ) → T schedule hub fs
         → (k : ℕ) (a : V.AtJoin) (e : V.End) → at_number hub k ≡ Some Out → Joins N V main schedule k a

@@ -13,7 +13,7 @@ use Rattle.revision_machine.proofs.Lists.{put_other, put_here, put_length, put_t
 use Rattle.hub_core.specs.declared.run_queue.Chain.{Chain}
 use Rattle.hub_core.specs.declared.run_queue.RunQueue.{RunQueue}
 use Rattle.hub_core.specs.Counts.{total, is_at, times, flag}
-use Rattle.hub_core.specs.Chains.{HasLists, IsNowhere, IsOnce, IsWithin, IsList, chain_at, with_waiter, without_waiters, IsAsLong, KeepsLists, Takes, AddsOne, DelaysOne, EndsOne, HasOne}
+use Rattle.hub_core.specs.Chains.{HasLists, IsNowhere, IsOnce, IsWithin, IsList, chain_at, with_waiter, without_waiters, IsAsLong, KeepsLists, Takes, AddsOne, DelaysOne, EndsOne, ReadiesOne, HasOne}
 use Rattle.hub_core.specs.Found.{ended_here, is_ready, all_over}
 use Rattle.hub_core.specs.Queued.{is_open, unfinished, waits_for, Queued}
 use Rattle.hub_core.proofs.Lists.{total_snoc, total_append, is_at_same, is_at_other, many_more}
@@ -441,6 +441,20 @@ module _ {L R A E : Type 0} (d : HubMachine L R A E) where
       (λ ne. ap (λ b. times j (cond b (n ∷ h.waits m) (h.waits m))) (ne_eqb m (d.on a) ne)))
       delays.2
       (let b = delays.1 in omega arith)
+
+  -- a revision before its leg is ready again
+  pub queue_back : {slots : Slots} {q q' : RunQueue} (n : ℕ) (r : R) → Queued d slots q → at_number slots n ≡ Some Out
+      → ReadiesOne q q' n → Queued d (put_number slots n (Ready r)) q'
+  queue_back {slots} {q} {q'} n r h e back =
+      let nowhere = is_nowhere slots q h n (Some Out) e out_idle in
+      turned slots n Out (Ready r) q q' (n ∷ h.ready) h.waits h e refl
+      (back.0 h.ready h.waits h.lists nowhere)
+      (let o = is_at_same n in let z = nowhere.in_ready in omega arith)
+      (λ j apart. let o = is_at_other j n (λ i. apart (sym i)) in omega arith)
+      (λ m. nowhere.in_waits m)
+      (λ m j apart. refl)
+      back.2
+      (let b = back.1 in omega arith)
 
   -- what waits for a revision that has ended is ready
   abbrev Woken : Slots → Slots → ℕ → Type 0

@@ -297,6 +297,23 @@ module _ {L R A E : Type 0} (d : HubMachine L R A E) (ends : E → L → Type 0)
       (outs_in t.revisions.slots.items w.out k (Waiting a) told.hand.holds.outs out refl) after
       (group_put w.group t.revisions.slots.items k (Waiting a) told.hand.holds.grouped group)
 
+  pub back : (v w : View L) (t t' : Value) (k : ℕ) (c : R) → Told d ends v w t → t.state ≡ All
+      → HasState d ends v k (d.runs c) → d.runner_group c ≡ w.group
+      → Next t' t.schedule.items (put_number t.revisions.slots.items k (Ready c)) t.revisions.forkers.items All
+      → InHand d ends (hands_in k w) t'
+  back v w t t' k c told none p group next =
+      let s : L = p.0 in
+      let out = its_out v w t k p.1 told p.3 in
+      let now = now_of v w t s k p.1 (d.runs c) told none p.2 p.3 p.4 in
+      let tie = tied_of w t s told.hand (told.start ∙ p.2) none in
+      let after =
+      hub.back (numbered d) (values d ends) s w.log t.revisions.slots.items t.revisions.forkers.items tie k c out now in
+      left_hand v w (hands_in k w) t t' s k w.log (put_number t.revisions.slots.items k (Ready c))
+      t.revisions.forkers.items told none p.2 out (refl, refl, refl, refl, refl, refl, refl)
+      (next.0 ∙ told.hand.holds.schedule, next.1, next.2, next.3, next.4)
+      (outs_in t.revisions.slots.items w.out k (Ready c) told.hand.holds.outs out refl) after
+      (group_put w.group t.revisions.slots.items k (Ready c) told.hand.holds.grouped group)
+
   pub joined : (v w : View L) (t t' : Value) (k : ℕ) (a : A) (e : E) → Told d ends v w t → t.state ≡ All
       → HasJoin d ends v k a → at_number t.revisions.slots.items (d.on a) ≡ Some (Over e)
       → Next t' (t.schedule.items ++ k ∷ []) (put_number t.revisions.slots.items (d.on a) Gone)

@@ -1,5 +1,5 @@
 -- What a seat knows of the world that the hub kept when it gave its turn back.
-use Rattle.std.proofs.Common.{◌≡◌, ◌≢◌, inl, inr, ⊎_elim, ℕ, ◌<◌, ◌≤◌, List, [], ◌∷◌, ◌++◌, sym, refl, ap, ◌∙◌, subst, arith, Some}
+use Rattle.std.proofs.Common.{◌≡◌, ⊎_elim, ℕ, ◌<◌, ◌≤◌, List, [], ◌∷◌, ◌++◌, sym, ap, ◌∙◌, subst, arith, Some}
 use mathlib.Core.Logic.{dite}
 use native.Mathlib.Decide.{ℕ_discrete}
 use Rattle.revision_machine.proofs.Paths.{some_inj}
@@ -10,7 +10,7 @@ use Rattle.hub_core.specs.declared.value.Turn.{Turn}
 use Rattle.hub_core.specs.declared.state.HubState.TheVariants.{All}
 use Rattle.hub_core.specs.Counts.{times, is_at}
 use Rattle.hub_core.specs.declared.view.View.{View}
-use Rattle.hub_core.specs.Passes.{Pass, named, without, left, IsPass, Fresh}
+use Rattle.hub_core.specs.Passes.{Pass, named, left, IsPass, Fresh}
 use Rattle.hub_core.specs.Views.{commits, hands_in, draws, rests}
 use Rattle.hub_core.specs.Seats.{HasJoin, HasEnd, HasCurrent, HasWorld}
 use Rattle.hub_core.specs.Rule.{InHand, Told}

@@ -6,7 +6,7 @@
 --   IsNowhere, IsOnce           a number stands in no list; each stands at most once in all of them
 --   KeepsLists                  a call that changes none
 --   Adds, Takes, Waits, Wakes   what a call makes of the lists
---   AddsOne, DelaysOne, EndsOne what it makes of the whole queue
+--   AddsOne, DelaysOne, EndsOne, ReadiesOne what it makes of the whole queue
 use Rattle.std.specs.Prelude.{◌≡◌, ◌≢◌, ◌<◌, ◌≤◌, ◌+◌, ℕ, zero, suc, Bool, false, List, [], ◌∷◌, ◌++◌, length, cond, ◌==◌, Option, Some, None}
 use Rattle.revision_machine.specs.Numbered.{at_number}
 use Rattle.hub_core.specs.declared.run_queue.Chain.{Chain}
@@ -104,7 +104,7 @@ Wakes q q' k =
     (ready : List ℕ) (waits : ℕ → List ℕ) → HasLists q ready waits → IsOnce ready waits
     → HasLists q' (waits k ++ ready) (without_waiters waits k)
 
--- the same of the whole queue: one number more, one that waits, and one that has ended
+-- the same of the whole queue: one number more, one that waits, one that has ended, and one that is ready again
 abbrev pub AddsOne : RunQueue → RunQueue → ℕ → Type 0
 AddsOne q q' k =
     Adds q q' k × (q'.unfinished ≡ q.unfinished + 1)
@@ -113,6 +113,9 @@ AddsOne q q' k =
 
 abbrev pub DelaysOne : RunQueue → RunQueue → ℕ → ℕ → Type 0
 DelaysOne q q' k on = Waits q q' k on × (q'.unfinished ≡ q.unfinished) × IsAsLong q q'
+
+abbrev pub ReadiesOne : RunQueue → RunQueue → ℕ → Type 0
+ReadiesOne q q' k = Adds q q' k × (q'.unfinished ≡ q.unfinished) × IsAsLong q q'
 
 abbrev pub EndsOne : RunQueue → RunQueue → ℕ → Type 0
 EndsOne q q' k = Wakes q q' k × (q'.unfinished + 1 ≡ q.unfinished) × IsAsLong q q'

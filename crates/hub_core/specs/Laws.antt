@@ -80,6 +80,12 @@ module _ (N : Numbered) (V : Values N) (main : N.Local) where
       (k : ℕ) (a : V.AtJoin) → at_number hub k ≡ Some Out → Joins N V main log k a
       → Tied N V main log (put_number hub k (Waiting a)) fs)
 
+  -- no entry; a revision that is handed back before its leg
+  abbrev pub BackLaw : Type 0
+  BackLaw = FromTied (λ log hub fs.
+      (k : ℕ) (c : V.Runner) → at_number hub k ≡ Some Out → state_after N main log k ≡ Some (V.runs c)
+      → Tied N V main log (put_number hub k (Ready c)) fs)
+
   -- one entry; the joiner has taken the end in
   abbrev pub JoinLaw : Type 0
   JoinLaw = FromTied (λ log hub fs.

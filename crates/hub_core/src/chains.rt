@@ -13,6 +13,7 @@ pub fn before(links: &mut Vec<u32>, number: u32, list: Option<Chain>) -> Chain
         → IsChain links.new.items result (number ∷ ns) }
     ensures others { IsKept links.old.items links.new.items number }
     ensures many { length links.new.items ≡ length links.old.items }
+    ensures first { result.first ≡ number }
 {
     match list {
         None => Chain {

@@ -12,6 +12,7 @@ ghost use Rattle.hub_core.specs.Laws.{
   RetryLaw,
   ForkLaw,
   WaitLaw,
+  BackLaw,
   JoinLaw,
   TwiceLaw,
   EndLaw,
@@ -44,8 +45,8 @@ pub fn replay_laws<H: HubWorld>()
 /// - `opens`: at its opening;
 /// - `take`, `retry`: by handing out a runner or a joiner, whose state is that of its revision;
 /// - `fork`, `join`, `ends`: by an event, which is one entry;
-/// - `wait`, `hand_in`: by a join that waits, and by the end of a joiner that its join trapped,
-///   which are none;
+/// - `wait`, `back`, `hand_in`: by a join that waits, by a revision that is handed back before its
+///   leg, and by the end of a joiner that its join trapped, which are none;
 /// - `twice`: a join of what was joined is the last entry;
 /// - `complete`: where all have ended the schedule is complete, and the ends are those of its
 ///   world.
@@ -55,6 +56,7 @@ pub fn hub_laws<H: HubWorld>()
     ensures retry { (s : H) (main : _) → RetryLaw (H.hub s).machine (H.hub s).values main }
     ensures fork { (s : H) (main : _) → ForkLaw (H.hub s).machine (H.hub s).values main }
     ensures wait { (s : H) (main : _) → WaitLaw (H.hub s).machine (H.hub s).values main }
+    ensures back { (s : H) (main : _) → BackLaw (H.hub s).machine (H.hub s).values main }
     ensures join { (s : H) (main : _) → JoinLaw (H.hub s).machine (H.hub s).values main }
     ensures twice { (s : H) (main : _) → TwiceLaw (H.hub s).machine (H.hub s).values main }
     ensures ends { (s : H) (main : _) → EndLaw (H.hub s).machine (H.hub s).values main }

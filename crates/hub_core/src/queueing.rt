@@ -87,6 +87,7 @@ impl RunQueue {
             × (vec_len self.old.waiters < vec_capacity self.old.waiters) }
         requires few { self.old.unfinished ≤ 2 ^ 32 }
         ensures lists { Adds self.old self.new number }
+        ensures first { is_first self.new.ready number ≡ true }
         ensures count { self.new.unfinished ≡ self.old.unfinished + 1 }
         ensures many { length self.new.links.items ≡ length self.old.links.items + 1 }
         ensures reach { length self.new.links.items ≤ length self.new.waiters.items }
@@ -96,6 +97,17 @@ impl RunQueue {
         let chain = before(&mut self.links, number, self.ready);
         self.ready = Some(chain);
         self.unfinished += 1;
+        self.many = self.many.saturating_add(1);
+    }
+
+    /// A number that stands in no list is ready again, and the first of those.
+    pub fn put_first(&mut self, number: u32)
+        requires { number < length self.old.links.items }
+        ensures lists { Adds self.old self.new number }
+        ensures same { (self.new.unfinished ≡ self.old.unfinished) × IsAsLong self.old self.new }
+    {
+        let chain = before(&mut self.links, number, self.ready);
+        self.ready = Some(chain);
         self.many = self.many.saturating_add(1);
     }
 

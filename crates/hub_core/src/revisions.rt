@@ -6,8 +6,9 @@ ghost use Rattle.revision_machine.specs.Numbered.{at_number, put_number};
 ghost use Rattle.hub_core.specs.declared.status.Status.TheVariants.{Ready, Out, Waiting, Over};
 ghost use Rattle.hub_core.specs.declared.status.Status.TheVariants.{Gone};
 ghost use Rattle.hub_core.specs.Hub.{end_of};
-ghost use Rattle.hub_core.specs.Chains.{KeepsLists, AddsOne, DelaysOne, EndsOne, HasOne};
-ghost use Rattle.hub_core.specs.Chains.{IsWithin, chain_at};
+ghost use Rattle.hub_core.specs.Chains.{KeepsLists, AddsOne, DelaysOne, EndsOne, ReadiesOne};
+ghost use Rattle.hub_core.specs.Chains.{HasOne};
+ghost use Rattle.hub_core.specs.Chains.{IsWithin, chain_at, is_first};
 ghost use Rattle.hub_core.specs.Found.{ended_here};
 ghost use Rattle.hub_core.specs.Left.{self_kept, kept_of, IsReadyAlone};
 
@@ -141,6 +142,7 @@ impl<R, A, E> Revisions<R, A, E> {
             × (self.new.slots.items ≡ self.old.slots.items ++ Ready child ∷ [])
             × (self.new.forkers.items ≡ self.old.forkers.items ++ of ∷ [])) }
         ensures added { IfOk result (λ n. AddsOne self.old.queue self.new.queue n) }
+        ensures first { IfOk result (λ n. is_first self.new.queue.ready n ≡ true) }
         ensures err { IfErr result (λ c. (c ≡ child)
             × (self.new.slots.items ≡ self.old.slots.items)
             × (self.new.forkers.items ≡ self.old.forkers.items)
@@ -178,6 +180,18 @@ impl<R, A, E> Revisions<R, A, E> {
             Status::Out => {},
             other => empty(Some(other)),
         }
+    }
+
+    /// A revision that a seat had, and that is before its leg, is ready again.
+    pub fn hand_back(&mut self, number: u32, runner: R)
+        requires out { at_number self.old.slots.items number ≡ Some Out }
+        requires queue { number < length self.old.queue.links.items }
+        ensures now { self.new.slots.items ≡ put_number self.old.slots.items number (Ready runner) }
+        ensures queue { ReadiesOne self.old.queue self.new.queue number }
+        ensures forkers { self.new.forkers.items ≡ self.old.forkers.items }
+    {
+        self.queue.put_first(number);
+        self.put_back(number, Status::Ready(runner));
     }
 
     /// A joiner that a seat had waits for the end of the revision `on`. It comes back for want of

@@ -1,9 +1,9 @@
 //! What lies in the slot while nobody has the turn.
 ghost use Rattle.std.specs.Prelude.{◌≡◌, ◌≤◌, ◌++◌, [], ◌∷◌, length, Some, None, MatchOption};
-ghost use Rattle.std.specs.Prelude.{MatchBool, IfOk, IfErr};
+ghost use Rattle.std.specs.Prelude.{MatchBool, IfOk, IfErr, true};
 ghost use Rattle.hub_core.specs.declared.status.Status.TheVariants.{Ready};
 ghost use Rattle.hub_core.specs.declared.state.HubState.TheVariants.{All};
-ghost use Rattle.hub_core.specs.Chains.{AddsOne, KeepsLists};
+ghost use Rattle.hub_core.specs.Chains.{AddsOne, KeepsLists, is_first};
 ghost use Rattle.hub_core.specs.Halts.{halt_by};
 
 use crate::revisions::Revisions;
@@ -75,6 +75,7 @@ impl<R, A, E> Turn<R, A, E> {
             ≡ self.old.revisions.forkers.items ++ of ∷ [])) }
         ensures added { IfOk result
             (λ n. AddsOne self.old.revisions.queue self.new.revisions.queue n) }
+        ensures first { IfOk result (λ n. is_first self.new.revisions.queue.ready n ≡ true) }
         ensures err { IfErr result (λ c. (c ≡ child)
             × (self.new.schedule.items ≡ self.old.schedule.items)
             × (self.new.revisions.slots.items ≡ self.old.revisions.slots.items)

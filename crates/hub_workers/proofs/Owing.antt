@@ -36,7 +36,7 @@ module _ {L : Type 0} where
       (λ ne. pair (awake w.halt v.halt keeps.3 free) j at (keeps.2 j at ne p))
 
   -- one of the two is handed in
-  first_in : (v w : View L) (n k : ℕ) → KeepsOthers v w n → LacksPass w n → IsPair v n k → IsAlone w k
+  pub first_in : (v w : View L) (n k : ℕ) → KeepsOthers v w n → LacksPass w n → IsPair v n k → IsAlone w k
   first_in v w n k keeps lacks pair free j at p = dite (ℕ_discrete j n)
       (λ e. absurd (lacks at (subst (λ i. IsPass w.passes i at) e p)))
       (λ ne. of ne (pair (awake w.halt v.halt keeps.3 free) j at (keeps.2 j at ne p)))

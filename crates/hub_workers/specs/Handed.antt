@@ -4,7 +4,7 @@
 --   IsAlone       it has no revision but one, unless it knows of a halt
 --   IsPair        it has no revision but two, unless it knows of a halt
 --   OnlyAnswer    the joiner of an answer is the one revision that it has, and none where the joiner is given up
---   OnlyNext      it has no revision but the one that the thread goes on with, and its joiner or its joinee
+--   OnlyNext      it has no revision but the one that the thread goes on with, and its joiner, its joinee or its child
 use Rattle.std.specs.Prelude.{◌≡◌, ◌⊎◌, ℕ, List}
 use Rattle.hub_core.specs.declared.state.HubState.TheVariants.{All}
 use Rattle.hub_core.specs.declared.view.View.{View}
@@ -43,4 +43,5 @@ module _ {L : Type 0} where
     OnlyNext v (next.Came n r) = OnlyAnswer v n r
     OnlyNext v (next.Joinee n r k a) = IsPair v n k
     OnlyNext v (next.Owing k r m) = IsPair v m k
+    OnlyNext v (next.Kept k r n c) = IsPair v n k
     OnlyNext v next.Nothing = HasHandedIn v

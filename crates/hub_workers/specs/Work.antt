@@ -6,6 +6,7 @@
 --   HasAnswer      the seat has a joiner whose join came out so
 --   HasReached     a revision has this state in a world to which a schedule leads from the run's start
 --   StaysFor       a joiner stays with the seat, which has its joinee
+--   Keeps          a forker goes on while the seat keeps its child
 --   IsOwing        a joiner has taken in the end of its joinee, and the seat has both
 --   HasNext        the seat has the revision that the thread goes on with
 use Rattle.std.specs.Prelude.{◌≡◌, ◌≢◌, ℕ, List, [], Some, true, false}
@@ -64,6 +65,13 @@ module _ {L R A E : Type 0} (d : HubMachine L R A E) (ends : E → L → Type 0)
     pub group : d.joiner_group a ≡ v.group
     pub world : HasWorld d ends v
 
+  -- the child n of the forker k is before its leg, and the seat has both
+  pub record Keeps (v : View L) (n k : ℕ) (c : R) : Type 0 where
+    pub state : HasState d ends v n (d.runs c)
+    pub group : d.runner_group c ≡ v.group
+    pub apart : k ≢ n
+    pub world : HasWorld d ends v
+
   pub record IsOwing (v : View L) (m k : ℕ) (l : L) : Type 0 where
     pub owes : Owes d ends v m k l
     pub reached : HasReached v k l
@@ -85,4 +93,6 @@ module _ {L R A E : Type 0} (d : HubMachine L R A E) (ends : E → L → Type 0)
     HasNext v (next.Joinee n r k a) =
         HasState d ends v n (d.runs r) × (d.runner_group r ≡ v.group) × StaysFor v n k a
     HasNext v (next.Owing k r m) = IsOwing v m k (d.runs r) × (d.runner_group r ≡ v.group)
+    HasNext v (next.Kept k r n c) =
+        HasState d ends v k (d.runs r) × (d.runner_group r ≡ v.group) × Keeps v n k c
     HasNext v next.Nothing = Unit {0}

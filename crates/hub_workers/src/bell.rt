@@ -86,6 +86,11 @@ impl Bell {
         }
     }
 
+    /// Whether a thread sleeps, or looks for work.
+    pub fn has_idle(&self) -> bool {
+        self.has_scout() || self.has_sleepers()
+    }
+
     fn has_sleepers(&self) -> bool {
         self.sleepers.load(Ordering::SeqCst) > 0
     }

@@ -3,6 +3,7 @@
 
 mod bell;
 mod gate;
+mod keeping;
 mod legs;
 mod next;
 mod running;

@@ -35,6 +35,13 @@ pub enum Next<R, A, C, S> {
         runner: R,
         joinee: u32,
     },
+    /// A forker, while its child, which is before its leg, is kept by the thread.
+    Kept {
+        number: u32,
+        runner: R,
+        child: u32,
+        kept: R,
+    },
     /// Nothing.
     Nothing,
 }

@@ -102,8 +102,12 @@ impl Scout {
     }
 
     // Naps and looks until it should take from the hub or sleep. After a look that found that
-    // revisions come and go, the next nap is twice as long.
+    // revisions come and go, the next nap is twice as long. Before the first nap it looks whether
+    // there is enough for all, as in a burst of forks.
     fn watch<L: Legs, W: Wait>(&mut self, rt: &W, hub: &TurnHub<L>, bell: &Bell) -> Look {
+        if bell.has_two_each(ready_mark(hub)) {
+            return Look::Take;
+        }
         for _ in rt.forever() {
             let before = Before {
                 mark: ready_mark(hub),

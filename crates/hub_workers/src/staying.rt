@@ -13,6 +13,7 @@ ghost use Rattle.hub_workers.specs.Handed.{IsPair, OnlyNext};
 
 use crate::bell::Bell;
 use crate::gate::Gate;
+use crate::keeping::fork_keeping;
 use crate::legs::{LegEvent, Legs, SettledLeg};
 use crate::next::Next;
 use crate::worker::{halt, hand_in, join};
@@ -75,7 +76,7 @@ fn join_owing<L: Legs, W: Wait>(
 }
 
 // The fork of a joiner that has taken an end in: all three are entered in one turn.
-fn fork_owing<L: Legs, W: Wait>(
+fn fork_shared<L: Legs, W: Wait>(
     rt: &W,
     hub: &TurnHub<L>,
     bell: &Bell,
@@ -113,6 +114,36 @@ fn fork_owing<L: Legs, W: Wait>(
             Next::Nothing
         },
     }
+}
+
+// The same. Such a joiner has run its last child by itself, and is expected to do so with this one,
+// so the thread keeps the child where no other is idle.
+fn fork_owing<L: Legs, W: Wait>(
+    rt: &W,
+    hub: &TurnHub<L>,
+    bell: &Bell,
+    seat: &mut HubSeat<L>,
+    hand: &mut L::Hand,
+    number: u32,
+    joinee: u32,
+    at: L::AtFork,
+) -> Next<L::Runner, L::AtJoin, L::Claimed, L::Stopped>
+    requires own { IsSeatOf hub.now seat.old }
+    requires hand { IsHandOf L.begins L.hand_group (view_of seat.old) hand.old }
+    requires event { (l : L.State) × Owes L.machine L.ends (view_of seat.old) joinee number l
+        × (L.machine.next l ≡ Bears (L.forker at) (L.child at)) }
+    requires group { L.fork_group at ≡ (view_of seat.old).group }
+    ensures own { IsSeatOf hub.now seat.new }
+    ensures same { IsSameSeat (view_of seat.old) (view_of seat.new) }
+    ensures hand { IsHandOf L.begins L.hand_group (view_of seat.new) hand.new }
+    ensures next { HasNext L.machine L.ends L.claimed L.stopped
+        L.claimed_group L.stopped_group (view_of seat.new) result }
+    ensures only { IsPair (view_of seat.old) joinee number → OnlyNext (view_of seat.new) result }
+{
+    if bell.has_idle() {
+        return fork_shared(rt, hub, bell, seat, hand, number, joinee, at);
+    }
+    fork_keeping(rt, hub, seat, hand, number, joinee, at)
 }
 
 /// A leg and its event of a joiner that has taken an end in.

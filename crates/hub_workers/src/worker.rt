@@ -7,6 +7,7 @@ ghost use Rattle.hub_workers.specs.Handed.{HasHandedIn, IsAlone, OnlyAnswer, Onl
 
 use crate::bell::Bell;
 use crate::gate::Gate;
+use crate::keeping::step_kept;
 use crate::legs::{LegEvent, Legs, SettledLeg};
 use crate::next::{Next, after_end, after_joiner};
 use crate::scout::{Scout, pass_on};
@@ -169,7 +170,7 @@ pub(crate) fn join<L: Legs, W: Wait>(
 }
 
 // A forker goes on with its child's number, where there is memory and nothing was halted.
-fn fork<L: Legs, W: Wait>(
+pub(crate) fn fork<L: Legs, W: Wait>(
     rt: &W,
     hub: &TurnHub<L>,
     bell: &Bell,
@@ -287,6 +288,14 @@ fn drive<L: Legs, G: Gate, W: Wait>(
                 joinee,
             } => {
                 next = step_owing(rt, hub, bell, gate, seat, hand, number, runner, joinee);
+            },
+            Next::Kept {
+                number,
+                runner,
+                child,
+                kept,
+            } => {
+                next = step_kept(rt, hub, bell, gate, seat, hand, number, runner, child, kept);
             },
             Next::Nothing => return,
         }

@@ -1,5 +1,5 @@
 -- What is ready is drawn in a turn, and a joiner that was drawn joins in it.
-use Rattle.std.proofs.Common.{◌≡◌, ⊎_elim, ℕ, ◌≤◌, Bool, true, false, cond, List, [], ◌∷◌, ◌++◌, refl, sym, ap, ◌∙◌, subst, arith, eq-eqb, Option, Some, None}
+use Rattle.std.proofs.Common.{◌≡◌, ⊎_elim, ℕ, Bool, true, false, cond, List, [], ◌∷◌, ◌++◌, refl, sym, ap, ◌∙◌, subst, arith, eq-eqb, Option, Some, None}
 use Rattle.std.proofs.lemmas.Bool.{eqb-true}
 use mathlib.Core.Logic.{dite}
 use native.Mathlib.Decide.{ℕ_discrete}
@@ -156,7 +156,7 @@ module _ {L R A E : Type 0} (d : HubMachine L R A E) (ends : E → L → Type 0)
   first_flag None n e = none_some e
   first_flag (Some chain) n e = eq-eqb chain.first n (some_inj e)
 
-  first_once : (o : Option Chain) (n m : ℕ) → is_first o n ≡ true → is_first o m ≡ true → n ≡ m
+  pub first_once : (o : Option Chain) (n m : ℕ) → is_first o n ≡ true → is_first o m ≡ true → n ≡ m
   first_once None n m a b = no_more a
   first_once (Some chain) n m a b = sym (eqb-true chain.first n a) ∙ eqb-true chain.first m b
 

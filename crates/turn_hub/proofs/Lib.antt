@@ -2,5 +2,6 @@
 pub mod Says
 pub mod Drawing
 pub mod Settling
+pub mod Handing
 pub mod Rows
 pub mod Closes

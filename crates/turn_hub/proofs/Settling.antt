@@ -1,8 +1,7 @@
 -- The end of a joinee and the join of it are entered in one turn, and what the seat does behind that.
-use Rattle.std.proofs.Common.{◌≡◌, inl, inr, ℕ, ◌<◌, List, [], ◌∷◌, ◌++◌, refl, sym, ap, ◌∙◌, subst, arith, Some}
-use Rattle.revision_machine.specs.Numbered.{Bears, at_number, put_number}
-use Rattle.hub_core.specs.declared.status.Status.{Status}
-use Rattle.hub_core.specs.declared.status.Status.TheVariants.{Out, Gone}
+use Rattle.std.proofs.Common.{◌≡◌, inr, ℕ, ◌<◌, List, [], ◌∷◌, ◌++◌, refl, sym, ap, ◌∙◌, subst, arith}
+use Rattle.revision_machine.specs.Numbered.{Bears, put_number}
+use Rattle.hub_core.specs.declared.status.Status.TheVariants.{Gone}
 use Rattle.hub_core.specs.HubMachine.{HubMachine}
 use Rattle.hub_core.specs.declared.value.Turn.{Turn}
 use Rattle.hub_core.specs.declared.state.HubState.TheVariants.{All}
@@ -11,7 +10,7 @@ use Rattle.hub_core.specs.declared.view.Said.{Said}
 use Rattle.hub_core.specs.declared.view.Said.TheVariants as mark
 use Rattle.hub_core.specs.Passes.{named, left, IsPass}
 use Rattle.hub_core.specs.Views.{commits, hands_in, rests, sees}
-use Rattle.hub_core.specs.Seats.{HasState, HasFork, HasJoin, HasCurrent, Owes}
+use Rattle.hub_core.specs.Seats.{HasState, HasFork, HasCurrent, Owes}
 use Rattle.hub_core.specs.Rule.{says, InHand, Told}
 use Rattle.hub_core.proofs.Lists.{is_at_same}
 use Rattle.hub_core.proofs.Passes.{pass_named, pass_left, left_pass, pass_behind}
@@ -110,7 +109,7 @@ module _ {L R A E : Type 0} (d : HubMachine L R A E) (ends : E → L → Type 0)
     record { state = l; forker = forker; stands = s.4; bears = bears },
   )
 
-  forked_over : (u y : V) (k : ℕ) (c : R) (n : ℕ) → Forked d ends u y k c n → Forked d ends (rests u) y k c n
+  pub forked_over : (u y : V) (k : ℕ) (c : R) (n : ℕ) → Forked d ends u y k c n → Forked d ends (rests u) y k c n
   forked_over u y k c n h = record {
     free = h.free;
     keeps = h.keeps;
@@ -122,7 +121,7 @@ module _ {L R A E : Type 0} (d : HubMachine L R A E) (ends : E → L → Type 0)
   }
 
   -- what is said of the revisions behind the two entries
-  said_settled : {v w u x : V} (t t' : Value) (m k : ℕ) → Told d ends v w t → u ≡ settles m k w
+  pub said_settled : {v w u x : V} (t t' : Value) (m k : ℕ) → Told d ends v w t → u ≡ settles m k w
       → t'.revisions.slots.items ≡ put_number t.revisions.slots.items m Gone → IsOneTurn u x
       → says d ends t'.revisions.slots.items ≡ put_number x.said m mark.Joined
   said_settled t t' m k told now put one =
@@ -130,7 +129,7 @@ module _ {L R A E : Type 0} (d : HubMachine L R A E) (ends : E → L → Type 0)
       ∙ (says_put d ends t.revisions.slots.items m Gone
       ∙ ap (λ z. put_number z m mark.Joined) (sym (one.said ∙ (ap (λ y. y.said) now ∙ told.said))))
 
-  rested_one : (u x : V) → IsOneTurn u x → IsOneTurn (rests u) x
+  pub rested_one : (u x : V) → IsOneTurn u x → IsOneTurn (rests u) x
   rested_one u x h = record { said = h.said; entered = h.entered; found = h.found }
 
   pub forked_behind : {v w u x : V} (t t' : Value) (m k : ℕ) (l : L) (c : R) (n : ℕ) → Told d ends v w t

@@ -10,6 +10,7 @@ mod ended;
 mod held;
 mod hub;
 mod joinees;
+mod keeping;
 mod opening;
 mod patience;
 mod seat;

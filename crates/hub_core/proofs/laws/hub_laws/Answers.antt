@@ -9,6 +9,7 @@ returns g c = record {
   retry = λ s main. let h = g.H.HubWorld.hub s in hub.retried h.machine h.values main;
   fork = λ s main. let h = g.H.HubWorld.hub s in hub.forked h.machine h.values main;
   wait = λ s main. let h = g.H.HubWorld.hub s in hub.waits h.machine h.values main;
+  back = λ s main. let h = g.H.HubWorld.hub s in hub.back h.machine h.values main;
   join = λ s main. let h = g.H.HubWorld.hub s in hub.joined h.machine h.values main;
   twice = λ s main. let h = g.H.HubWorld.hub s in hub.twice h.machine h.values main;
   ends = λ s main. let h = g.H.HubWorld.hub s in hub.ended h.machine h.values main;

@@ -1,5 +1,5 @@
 -- Answers of RunQueue::add: the new number stands in no list, so linking it first leaves the other lists alone.
-use Rattle.std.proofs.Common.{List, ℕ, [], ◌∷◌, Option, sym, subst}
+use Rattle.std.proofs.Common.{List, ℕ, [], ◌∷◌, Option, sym, subst, eq-eqb}
 use Rattle.hub_core.specs.declared.run_queue.Chain.{Chain}
 use Rattle.hub_core.specs.Chains.{IsList, chain_at}
 use Rattle.hub_core.proofs.Ways.{list_more}
@@ -18,3 +18,6 @@ returns-clause-lists c = λ ready waits h no.
           (λ i. (sym more i, sym (c.cover.ensures.same m) i))
           (list_more q.links.items (0 ∷ []) (chain_at q.waiters.items m) (waits m) (h.waits_are m)));
     }
+
+pub returns-clause-first : goal.returns-clause-first
+returns-clause-first c = eq-eqb c.before-chain.result.first c.args.number c.before-chain.ensures.first

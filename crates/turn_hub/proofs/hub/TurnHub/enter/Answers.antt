@@ -1,6 +1,6 @@
 -- Answers of TurnHub::enter: a seat that took the turn finds it at its home, from which the exchange takes it.
 use Rattle.std.proofs.Common.{rules, ◌≡◌, true, refl, sym, ap, ◌∙◌, subst}
-use Rattle.hub_core.specs.declared.slot.Slot.TheVariants.{Home, Away}
+use Rattle.hub_core.specs.declared.slot.Slot.TheVariants.{Home}
 use Rattle.hub_core.specs.Slots.{is_home}
 use Rattle.hub_core.specs.Rule.{Told}
 use Rattle.hub_core.proofs.Outs.{head_out, same_out, put_in, home_is}

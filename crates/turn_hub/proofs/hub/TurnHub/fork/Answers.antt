@@ -1,7 +1,6 @@
 -- Answers of TurnHub::fork: in the turn the child gets a number or comes back, and after a halt it comes back.
-use Rattle.std.proofs.Common.{rules, ◌≡◌, refl, sym, ap, ◌∙◌}
+use Rattle.std.proofs.Common.{refl, sym, ap, ◌∙◌}
 use Rattle.std.proofs.lemmas.Result.{IfOk-weaker, IfErr-weaker}
-use Rattle.hub_core.specs.declared.state.HubState.TheVariants.{All}
 use Rattle.turn_hub.proofs.Says.{now_halted, halted_turn, turn_over}
 use Rattle.turn_hub.proofs.Drawing.{forked_found, halted_found}
 use Rattle.turn_hub.proofs.hub.TurnHub.fork.Goals as goal

@@ -1,8 +1,7 @@
 -- Answers of TurnHub::fork_in: the revision is out and has its pass, so its child gets a number or comes back.
-use Rattle.std.proofs.Common.{rules, ◌≡◌, refl, sym, ap, ◌∙◌}
-use Rattle.hub_core.specs.declared.state.HubState.TheVariants.{All}
+use Rattle.std.proofs.Common.{refl, ap, ◌∙◌}
 use Rattle.hub_core.proofs.Queues.{queue_few, queue_add, queue_kept}
-use Rattle.hub_core.specs.Views.{commits, rests, stops, or_no_memory, sees}
+use Rattle.hub_core.specs.Views.{commits, rests, sees}
 use Rattle.hub_core.proofs.Turns.{forked, same_hand, moved_hand, has_pass, told_at}
 use Rattle.turn_hub.proofs.Says.{has_forked, now_halted, rested_turn, halted_turn}
 use Rattle.turn_hub.proofs.Drawing.{unseen}

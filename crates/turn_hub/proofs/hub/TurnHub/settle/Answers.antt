@@ -1,5 +1,5 @@
 -- Answers of TurnHub::settle: both entries are made in the turn, or for want of memory neither.
-use Rattle.std.proofs.Common.{rules, ◌≡◌, refl, true, false, ap, ◌∙◌}
+use Rattle.std.proofs.Common.{rules, ◌≡◌, true, false, ap, ◌∙◌}
 use Rattle.hub_core.specs.declared.state.HubState.TheVariants.{All}
 use Rattle.hub_core.specs.Views.{rests, stops, or_no_memory}
 use Rattle.hub_core.proofs.Turns.{told_at}

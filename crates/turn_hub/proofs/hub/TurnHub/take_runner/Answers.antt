@@ -1,5 +1,5 @@
 -- Answers of TurnHub::take_runner: what comes first is before its leg, so it is that which is handed out.
-use Rattle.std.proofs.Common.{rules, ◌≡◌}
+use Rattle.std.proofs.Common.{rules}
 use Rattle.turn_hub.proofs.Drawing.{is_first_drawn, is_runner}
 use Rattle.turn_hub.proofs.hub.TurnHub.take_runner.Goals as goal
 

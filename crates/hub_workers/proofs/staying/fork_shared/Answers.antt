@@ -1,10 +1,10 @@
--- Answers of fork_owing: behind both entries the split is the fork of the joiner's leg, told of one turn.
+-- Answers of fork_shared: behind both entries the split is the fork of the joiner's leg, told of one turn.
 use Rattle.std.proofs.Common.{rules, ◌≡◌, sym, ap, ◌∙◌, subst}
 use Rattle.revision_machine.specs.Numbered.{Bears}
 use Rattle.hub_core.specs.Seats.{HasState}
 use Rattle.hub_workers.proofs.Events.{hand_on, hand_after}
 use Rattle.hub_workers.proofs.Owing.{behind_state, behind_same, behind_alone, halted_same, halted_in}
-use Rattle.hub_workers.proofs.staying.fork_owing.Goals as goal
+use Rattle.hub_workers.proofs.staying.fork_shared.Goals as goal
 
 pub fork_behind-requires-clause-event : goal.fork_behind-requires-clause-event
 fork_behind-requires-clause-event g c = (
