@@ -16,8 +16,8 @@ use Rattle.revision_machine.proofs.Lists.{at_below, below_at}
 use Rattle.code_machine_laws.specs.Reached.{IsReached}
 use Rattle.code_machine_laws.specs.Laws.{HasNumber}
 use Rattle.code_machine_laws.proofs.Reaching.{small}
-use Rattle.ready_queue.specs.declared.queue.ReadyQueue.{ReadyQueue}
-use Rattle.ready_queue.specs.Queue.{HasReady, HasWaiter, KeepsAll}
+use Rattle.world_runs.specs.declared.queue.ReadyQueue.{ReadyQueue}
+use Rattle.world_runs.specs.Queue.{HasReady, HasWaiter, KeepsAll}
 use Rattle.world_runs.specs.Covers.{IsCovered, is_ready, has_stopped, waits_for, Covers, CoversBut}
 use Rattle.world_runs.proofs.Making.{none_there, none_over}
 

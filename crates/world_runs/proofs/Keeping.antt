@@ -18,7 +18,7 @@ use Rattle.code_world.specs.declared.world.World.TheVariants as world
 use Rattle.code_world.specs.Answers.{LegAnswers}
 use Rattle.code_world.specs.Tables.{IsWorld}
 use Rattle.code_machine_laws.specs.Reached.{IsReached}
-use Rattle.ready_queue.specs.declared.queue.ReadyQueue.{ReadyQueue}
+use Rattle.world_runs.specs.declared.queue.ReadyQueue.{ReadyQueue}
 use Rattle.world_runs.specs.declared.made.Made.{Made}
 use Rattle.world_runs.specs.declared.made.Made.TheVariants as made
 use Rattle.world_runs.specs.Covers.{CoversWorld}

@@ -19,8 +19,8 @@ use Rattle.revision_machine.proofs.Lists.{at_below}
 use Rattle.code_world.proofs.Worlds.{world_live, world_twice}
 use Rattle.code_machine_laws.specs.Reached.{IsReached}
 use Rattle.code_machine_laws.proofs.Reaching.{small}
-use Rattle.ready_queue.specs.declared.queue.ReadyQueue.{ReadyQueue}
-use Rattle.ready_queue.specs.Queue.{HasReady}
+use Rattle.world_runs.specs.declared.queue.ReadyQueue.{ReadyQueue}
+use Rattle.world_runs.specs.Queue.{HasReady}
 use Rattle.world_runs.specs.declared.made.Made.{Made}
 use Rattle.world_runs.specs.declared.made.Made.TheVariants as made
 use Rattle.world_runs.specs.Covers.{is_ready, CoversWorld, CoversWorldBut, IsKnown, IsNoted, IsStill}

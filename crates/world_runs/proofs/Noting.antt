@@ -10,8 +10,8 @@ use Rattle.code_world.specs.declared.world.World as rust
 use Rattle.code_world.proofs.Rows.{some_same}
 use Rattle.revision_machine.proofs.Lists.{at_below}
 use Rattle.code_machine_laws.proofs.Reaching.{legs_reached}
-use Rattle.ready_queue.specs.declared.queue.ReadyQueue.{ReadyQueue}
-use Rattle.ready_queue.specs.Queue.{HasReady, HasWaiter, KeepsAll}
+use Rattle.world_runs.specs.declared.queue.ReadyQueue.{ReadyQueue}
+use Rattle.world_runs.specs.Queue.{HasReady, HasWaiter, KeepsAll}
 use Rattle.world_runs.specs.Covers.{CoversWorld, IsKnown, IsNoted}
 use Rattle.world_runs.proofs.Covering.{waits_now, over_now, none_such, phase_stops, goes_on, has_ended_now, same_numbers, one_more}
 

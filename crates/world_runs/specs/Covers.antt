@@ -17,8 +17,8 @@ use Rattle.code_world.specs.declared.answer.LegAnswer.TheVariants as answer
 use Rattle.code_world.specs.declared.world.World as rust
 use Rattle.code_machine_laws.specs.Laws.{HasNumber}
 use Rattle.code_machine_laws.specs.Reached.{IsReached}
-use Rattle.ready_queue.specs.declared.queue.ReadyQueue.{ReadyQueue}
-use Rattle.ready_queue.specs.Queue.{HasReady, HasWaiter}
+use Rattle.world_runs.specs.declared.queue.ReadyQueue.{ReadyQueue}
+use Rattle.world_runs.specs.Queue.{HasReady, HasWaiter}
 
 pub data IsCovered (g : CodeRun) (w : Entries (Local ℕ)) (q : ReadyQueue) (m : ℕ) : Type 0 where
   is_ready : HasReady q m → IsCovered g w q m

@@ -13,7 +13,7 @@ use Rattle.code_world.specs.declared.answer.LegAnswer.{LegAnswer}
 use Rattle.code_world.specs.declared.answer.LegAnswer.TheVariants as answer
 use Rattle.code_world.specs.declared.world.World as rust
 use Rattle.code_world.specs.Tables.{IsWorld}
-use Rattle.ready_queue.specs.declared.queue.ReadyQueue.{ReadyQueue}
+use Rattle.world_runs.specs.declared.queue.ReadyQueue.{ReadyQueue}
 use Rattle.world_runs.specs.declared.made.Made.{Made}
 use Rattle.world_runs.specs.declared.made.Made.TheVariants as made
 use Rattle.world_runs.specs.Finish.{HasTried, HasLeast, HasFinished}

@@ -1,5 +1,7 @@
 -- Definitions of world_runs: schedules of such a world: its replay and its run to the end, by legs that are made
 -- in some way.
+pub mod Heap
+pub mod Queue
 pub mod LegOrNone
 pub mod Replay
 pub mod Covers

@@ -6,7 +6,7 @@ ghost use Rattle.block_run.specs.Area.{count};
 ghost use Rattle.code_machine.specs.Local.{Local};
 ghost use Rattle.code_world.specs.Tables.{IsWorld};
 ghost use Rattle.code_machine_laws.specs.Reached.{IsReached};
-ghost use Rattle.ready_queue.specs.Queue.{HasReady};
+ghost use Rattle.world_runs.specs.Queue.{HasReady};
 ghost use Rattle.revision_machine.specs.Numbered.{World as DefinedWorld};
 ghost use Rattle.code_world.specs.LegOutcomes.{run_under};
 ghost use Rattle.world_runs.specs.Covers.{CoversWorld, CoversWorldBut};
@@ -16,7 +16,7 @@ use crate::legs::Legs;
 use crate::made::{Made, sort_out};
 use crate::notes::note;
 use code_world::{CodeSetting, World};
-use ready_queue::ReadyQueue;
+use crate::queue::ReadyQueue;
 use std::alloc::{AllocError, Global};
 use version_map::MergeBy;
 

@@ -5,10 +5,10 @@ ghost use Rattle.code_machine.specs.Local.{CodeRun, Local};
 ghost use Rattle.code_world.specs.declared.world.World as rust;
 ghost use Rattle.revision_machine.specs.Numbered.{Entries};
 ghost use Rattle.world_runs.specs.Covers.{IsKnown, IsNoted, IsStill};
-ghost use Rattle.ready_queue.specs.Queue.{HasReady, KeepsAll};
+ghost use Rattle.world_runs.specs.Queue.{HasReady, KeepsAll};
 
 use code_world::LegAnswer;
-use ready_queue::ReadyQueue;
+use crate::queue::ReadyQueue;
 use std::alloc::{AllocError, Global};
 
 /// Notes how the leg of a revision came out.

@@ -1,6 +1,6 @@
 -- Loops of all_ready: the numbers so far are ready, and the queue has a list of waiters for each.
 use Rattle.std.proofs.Common.{◌≡◌, ◌<◌, ℕ, length}
-use Rattle.ready_queue.specs.Queue.{HasReady}
+use Rattle.world_runs.specs.Queue.{HasReady}
 use Rattle.world_runs.proofs.ending.all_ready.Given as goal
 
 abbrev pub invariant-loop-number : goal.invariant-loop-number

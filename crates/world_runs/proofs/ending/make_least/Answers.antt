@@ -2,7 +2,7 @@
 use Rattle.std.proofs.Common.{◌≡◌, ◌∙◌, ◌<◌, ◌^◌, ℕ, ap, arith, rules}
 use Rattle.std.specs.BinaryHeap.{heap_len}
 use Rattle.code_world.specs.LegOutcomes.{run_under}
-use Rattle.ready_queue.specs.Queue.{HasReady, entered}
+use Rattle.world_runs.specs.Queue.{HasReady, entered}
 use Rattle.world_runs.proofs.Keeping.{handed}
 use Rattle.world_runs.proofs.LeastLegs.{take_out, least_in, none_in}
 use Rattle.world_runs.proofs.Making.{merges_still}

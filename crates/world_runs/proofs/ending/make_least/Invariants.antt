@@ -4,7 +4,7 @@ use Rattle.code_machine.specs.Local.{Local}
 use Rattle.code_world.specs.LegOutcomes.{run_under}
 use Rattle.code_world.specs.Tables.{IsWorld}
 use Rattle.code_machine_laws.specs.Reached.{IsReached}
-use Rattle.ready_queue.specs.Queue.{entered}
+use Rattle.world_runs.specs.Queue.{entered}
 use Rattle.revision_machine.specs.Numbered.{World}
 use Rattle.world_runs.specs.Covers.{CoversWorld}
 use Rattle.world_runs.proofs.ending.make_least.Given as goal

@@ -1,8 +1,8 @@
 -- Answers of ReadyQueue::grow: one more list at the end leaves each list of waiters at its place.
 use Rattle.std.proofs.Common.{◌∙◌, ap}
 use Rattle.std.specs.Prelude.{slice_get}
-use Rattle.ready_queue.proofs.Queues.{front}
-use Rattle.ready_queue.proofs.queue.ReadyQueue.grow.Goals as goal
+use Rattle.world_runs.proofs.Queues.{front}
+use Rattle.world_runs.proofs.queue.ReadyQueue.grow.Goals as goal
 
 pub returns-clause-kept : goal.returns-clause-kept
 returns-clause-kept c = record {

@@ -2,9 +2,9 @@
 use Rattle.std.proofs.Common.{◌≡◌, ◌∙◌, true, sym, ap, subst}
 use Rattle.std.specs.Prelude.{slice_get}
 use native.Mathlib.Decide.{ℕ_discrete}
-use Rattle.ready_queue.specs.Heap.{has}
-use Rattle.ready_queue.proofs.Queues.{set_here, set_other, found, has_front, has_end}
-use Rattle.ready_queue.proofs.queue.ReadyQueue.wait.Goals as goal
+use Rattle.world_runs.specs.Heap.{has}
+use Rattle.world_runs.proofs.Queues.{set_here, set_other, found, has_front, has_end}
+use Rattle.world_runs.proofs.queue.ReadyQueue.wait.Goals as goal
 
 pub returns-clause-here : goal.returns-clause-here
 returns-clause-here c = record {

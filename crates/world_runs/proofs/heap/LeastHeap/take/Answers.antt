@@ -1,7 +1,7 @@
 -- Answers of LeastHeap::take: the greatest distance is on top and stands for the least number, and the others stay.
 use Rattle.std.specs.BinaryHeap.{heap_items}
-use Rattle.ready_queue.proofs.Heaps.{least_first, one_less, taken_or_left}
-use Rattle.ready_queue.proofs.heap.LeastHeap.take.Goals as goal
+use Rattle.world_runs.proofs.Heaps.{least_first, one_less, taken_or_left}
+use Rattle.world_runs.proofs.heap.LeastHeap.take.Goals as goal
 
 pub returns-in-Some-clause-least : goal.returns-in-Some-clause-least
 returns-in-Some-clause-least c = λ n less h.

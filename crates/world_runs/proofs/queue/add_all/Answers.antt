@@ -1,8 +1,8 @@
 -- Answers of add_all: a number of those so far was there before or is this one, which the heap has just taken in.
 use Rattle.std.proofs.Common.{inl, inr, sym, subst, true≢false}
-use Rattle.ready_queue.specs.Heap.{Has}
-use Rattle.ready_queue.proofs.Queues.{has_more, has_all}
-use Rattle.ready_queue.proofs.queue.add_all.Goals as goal
+use Rattle.world_runs.specs.Heap.{Has}
+use Rattle.world_runs.proofs.Queues.{has_more, has_all}
+use Rattle.world_runs.proofs.queue.add_all.Goals as goal
 
 pub loop-at-init : goal.loop-at-init
 loop-at-init c = record { here = λ n h. absurd (true≢false (sym h)); kept = λ n h. h }

@@ -6,7 +6,7 @@
 use Rattle.std.specs.Prelude.{ℕ, ◌≡◌, ◌-◌, Bool, true, List, nat_eq, map}
 use Rattle.std.specs.BinaryHeap.{heap_items}
 use Rattle.std.specs.List.{list_any}
-use Rattle.ready_queue.specs.declared.heap.LeastHeap.{LeastHeap}
+use Rattle.world_runs.specs.declared.heap.LeastHeap.{LeastHeap}
 
 abbrev pub above : ℕ → ℕ
 above n = 4294967295 - n

@@ -1,9 +1,9 @@
 -- Answers of LeastHeap::add: the heap has each number's distance to the greatest, so one distance more is one number.
 use Rattle.std.proofs.Common.{◌-◌, ◌∷◌, refl}
 use Rattle.std.specs.BinaryHeap.{heap_items}
-use Rattle.ready_queue.specs.Heap.{above}
-use Rattle.ready_queue.proofs.Heaps.{has_first, has_later, has_permuted, one_more}
-use Rattle.ready_queue.proofs.heap.LeastHeap.add.Goals as goal
+use Rattle.world_runs.specs.Heap.{above}
+use Rattle.world_runs.proofs.Heaps.{has_first, has_later, has_permuted, one_more}
+use Rattle.world_runs.proofs.heap.LeastHeap.add.Goals as goal
 
 pub returns-clause-here : goal.returns-clause-here
 returns-clause-here c =

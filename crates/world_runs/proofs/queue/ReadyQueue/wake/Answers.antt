@@ -1,8 +1,8 @@
 -- Answers of ReadyQueue::wake: who waited is in the list that is taken out, and each number of that is made ready.
 use Rattle.std.proofs.Common.{◌≡◌, ◌∙◌, true, sym, subst}
-use Rattle.ready_queue.specs.Heap.{has}
-use Rattle.ready_queue.proofs.Queues.{set_other, found}
-use Rattle.ready_queue.proofs.queue.ReadyQueue.wake.Goals as goal
+use Rattle.world_runs.specs.Heap.{has}
+use Rattle.world_runs.proofs.Queues.{set_other, found}
+use Rattle.world_runs.proofs.queue.ReadyQueue.wake.Goals as goal
 
 pub returns-clause-woken : goal.returns-clause-woken
 returns-clause-woken c = λ n h.

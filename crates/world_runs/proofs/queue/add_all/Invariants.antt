@@ -1,7 +1,7 @@
 -- Loops of add_all: the heap has each number so far, and each that it had at first.
 use Rattle.std.proofs.Common.{◌≡◌, ℕ, true, take}
-use Rattle.ready_queue.specs.Heap.{has, Has}
-use Rattle.ready_queue.proofs.queue.add_all.Given as goal
+use Rattle.world_runs.specs.Heap.{has, Has}
+use Rattle.world_runs.proofs.queue.add_all.Given as goal
 
 abbrev pub invariant-loop-at : goal.invariant-loop-at
 invariant-loop-at l = record {

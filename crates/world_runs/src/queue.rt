@@ -3,8 +3,8 @@
 ghost use Rattle.std.specs.Prelude.{◌≡◌, ◌≢◌, ◌≤◌, ◌<◌, ◌+◌, ◌⊎◌, ◌^◌, ℕ, IfSome, IfNone, OnOk};
 ghost use Rattle.std.specs.Prelude.{length, true, [], ◌∷◌};
 ghost use Rattle.std.specs.List.Sorted.{IsPermutation};
-ghost use Rattle.ready_queue.specs.Heap.{Has, has};
-ghost use Rattle.ready_queue.specs.Queue.{HasReady, HasWaiter, KeepsAll, entered, ready};
+ghost use Rattle.world_runs.specs.Heap.{Has, has};
+ghost use Rattle.world_runs.specs.Queue.{HasReady, HasWaiter, KeepsAll, entered, ready};
 
 use crate::heap::LeastHeap;
 use std::alloc::{AllocError, Global};

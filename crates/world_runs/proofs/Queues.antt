@@ -2,8 +2,8 @@
 use Rattle.std.proofs.Common.{◌≡◌, ◌≢◌, ◌⊎◌, inl, inr, ◌∙◌, ℕ, zero, suc, ◌+◌, ◌<◌, ◌≤◌, true, List, [], ◌∷◌, ◌++◌, length, take, get_or, set, Option, Some, None, refl, ap, subst, arith}
 use Rattle.std.proofs.lemmas.Option.{get_or_from_slice_get}
 use Rattle.std.specs.Prelude.{slice_get}
-use Rattle.ready_queue.specs.Heap.{has}
-use Rattle.ready_queue.proofs.Heaps.{has_first, has_later, has_none, has_parts}
+use Rattle.world_runs.specs.Heap.{has}
+use Rattle.world_runs.proofs.Heaps.{has_first, has_later, has_none, has_parts}
 
 module _ {A : Type 0} where
   pub front : (xs ys : List A) (n : ℕ) (x : A) → slice_get xs n ≡ Some x → slice_get (xs ++ ys) n ≡ Some x

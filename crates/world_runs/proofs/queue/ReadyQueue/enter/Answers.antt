@@ -1,5 +1,5 @@
 -- Answers of ReadyQueue::enter: the heap keeps all that were ready, and the lists of waiters are not touched.
-use Rattle.ready_queue.proofs.queue.ReadyQueue.enter.Goals as goal
+use Rattle.world_runs.proofs.queue.ReadyQueue.enter.Goals as goal
 
 pub returns-clause-kept : goal.returns-clause-kept
 returns-clause-kept c = record {

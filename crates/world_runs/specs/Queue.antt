@@ -6,9 +6,9 @@
 --   KeepsAll     all that were ready are, and all that waited do
 use Rattle.std.specs.Prelude.{ℕ, ◌≡◌, true, List, Some, slice_get}
 use Rattle.std.specs.BinaryHeap.{heap_len}
-use Rattle.ready_queue.specs.declared.queue.ReadyQueue.{ReadyQueue}
-use Rattle.ready_queue.specs.declared.queue.Waiters.{Waiters}
-use Rattle.ready_queue.specs.Heap.{has, Has, listed}
+use Rattle.world_runs.specs.declared.queue.ReadyQueue.{ReadyQueue}
+use Rattle.world_runs.specs.declared.queue.Waiters.{Waiters}
+use Rattle.world_runs.specs.Heap.{has, Has, listed}
 
 abbrev pub HasReady : ReadyQueue → ℕ → Type 0
 HasReady q n = Has q.ready n

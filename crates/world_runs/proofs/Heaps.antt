@@ -7,7 +7,7 @@ use Rattle.std.proofs.lemmas.List.Sorted.{list_any-IsPermutation, IsPermutation-
 use Rattle.std.specs.BinaryHeap.{IsUpperBound}
 use Rattle.std.specs.List.Sorted.{IsPermutation}
 use Rattle.std.specs.Ordering.{nat_cmp}
-use Rattle.ready_queue.specs.Heap.{above, has}
+use Rattle.world_runs.specs.Heap.{above, has}
 
 pub has_first : (x : ℕ) (xs : List ℕ) (n : ℕ) → x ≡ n → has (x ∷ xs) n ≡ true
 has_first x xs n e = or_left (nat_eq x n) (has xs n) (eq-eqb x n e)

@@ -4,7 +4,7 @@ ghost use Rattle.std.specs.Prelude.{◌≡◌, ◌≤◌, ◌<◌, ◌+◌, ◌�
 ghost use Rattle.std.specs.Prelude.{[], ◌∷◌};
 ghost use Rattle.std.specs.List.Sorted.{IsPermutation};
 ghost use Rattle.std.specs.BinaryHeap.{heap_len};
-ghost use Rattle.ready_queue.specs.Heap.{Has, listed};
+ghost use Rattle.world_runs.specs.Heap.{Has, listed};
 
 use crate::heap::LeastHeap;
 use std::alloc::{AllocError, Global};
