@@ -66,7 +66,10 @@ impl RowKernel {
             (lanes_answer (answer_of (definition self.now.def)) main join root) at
             values.old values.new }
     {
-        match self.call(main, join, root) {
+        note_lanes(&main);
+        note_lanes(&join);
+        note_lanes(&root);
+        match (self.run)(main, join, root) {
             Some(ints) => {
                 put_lanes(&ints, values, at);
                 true
