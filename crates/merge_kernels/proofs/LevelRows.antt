@@ -6,7 +6,6 @@
 --   level_more   and then one row more
 use Rattle.std.proofs.Common.{◌≡◌, ◌∙◌, ap, sym, refl, subst, ℕ, zero, suc, ◌+◌, ◌-◌, ◌<◌, ◌≤◌, ◌*◌, ◌⊎◌, inl, inr, Bool, true, false, ◌&&◌, nat_eq, nat_lt, set, replicate, List, [], ◌∷◌, length, take, drop, slice_get, Option, Some, None, arith}
 use Rattle.std.proofs.lemmas.Bool.Decides.{nat_tests}
-use Rattle.rev_num.proofs.Lists.{false_no}
 use Rattle.merge_kernels.specs.Plans.{the_choice, choice_at, is_choice, have, row_choice, AreLike, AreLevel}
 use Rattle.merge_kernels.proofs.RowChoices.{taken, dropped, long, one_choice}
 

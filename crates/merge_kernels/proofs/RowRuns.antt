@@ -3,17 +3,17 @@
 --   one_more      an eight more is put
 --   fewer_follow  the first of locations that follow each other
 --   run_values    where one definition was chosen for a run of locations, their merges are its values
-use Rattle.std.proofs.Common.{◌≡◌, ◌∙◌, ap, sym, refl, subst, ℕ, ℤ, zero, suc, ◌+◌, ◌*◌, ◌<◌, ◌≤◌, Bool, true, List, [], ◌∷◌, length, take, drop, map, slice_get, Option, Some, None, option_map, option_and_then, arith}
-use Rattle.std.proofs.lemmas.List.{length-take, length-drop}
+use Rattle.std.proofs.Common.{◌≡◌, ◌∙◌, ap, sym, refl, ℕ, ℤ, zero, suc, ◌+◌, ◌<◌, ◌≤◌, true, List, [], ◌∷◌, length, take, drop, map, slice_get, Option, Some, option_map, option_and_then, arith}
+use Rattle.std.proofs.lemmas.List.{length-take}
 use Rattle.rev_num.specs.Words.{int_of, word_of}
 use Rattle.rev_syntax.specs.Trees.{Expression}
 use Rattle.version_map.specs.declared.end.Written.{Written}
 use Rattle.version_map.specs.Composing.{Merges}
 use Rattle.version_map.specs.Following.{Follow}
-use Rattle.version_map.specs.Parts.{HasPut, IsPart}
-use Rattle.version_map.proofs.RowParts.{drop_drop, eight_part, put_more}
+use Rattle.version_map.specs.Parts.{HasPut}
+use Rattle.version_map.proofs.RowParts.{eight_part, put_more}
 use Rattle.merge_kernels.specs.Lanes.{lanes_answer}
-use Rattle.merge_kernels.specs.Plans.{choice_at, chosen_at, AreLike}
+use Rattle.merge_kernels.specs.Plans.{chosen_at, AreLike}
 use Rattle.merge_kernels.specs.Rows.{HasPutRow, HasPutValues, AreValues}
 use Rattle.merge_kernels.specs.Terms.{answer_of}
 use Rattle.merge_kernels.specs.Words.{merged_or, overlaid}
@@ -23,9 +23,12 @@ pub row_put : (e : Expression) (mains : List ℕ) (ws : List Written) (at : ℕ)
     → m ≡ map int_of (take 8 (drop at mains)) → j ≡ map int_of (map (λ w. w.value) (take 8 (drop at ws)))
     → r ≡ map int_of (map (λ w. w.root) (take 8 (drop at ws)))
     → HasPutValues (lanes_answer (answer_of e) m j r) at old new → HasPutRow e mains ws at old new
-row_put e mains ws at old new m j r em ej er (ints, is, put) =
-    (map word_of ints, (λ i. option_map (map word_of) (lanes_answer (answer_of e) (sym em i) (sym ej i) (sym er i)))
-    ∙ ap (option_map (map word_of)) is, put)
+row_put e mains ws at old new m j r em ej er (ints, is, put) = (
+  map word_of ints,
+  (λ i. option_map (map word_of) (lanes_answer (answer_of e) (sym em i) (sym ej i) (sym er i)))
+      ∙ ap (option_map (map word_of)) is,
+  put,
+)
 
 behind : (i k : ℕ) (ws : List Written) → slice_get (drop i ws) k ≡ slice_get ws (i + k)
 behind zero k ws = let e : k ≡ 0 + k = omega arith in ap (slice_get ws) e

@@ -44,7 +44,7 @@ pub pair_put : (ints : List ℤ) (words : List ℕ) (k n m : ℕ) (a b x y : ℤ
 pair_put ints words k n m a b x y two next long many room p q e f so = (
   same_len_mid k n ints _ (length-put_chunk 0 (take n (drop k ints)) (a ∷ b ∷ [])) ∙ long,
   subst (λ j.
-  take m (put_mid k j ints (put_chunk 0 (take j (drop k ints)) (a ∷ b ∷ []))) ≡ map int_of (take m words))
+      take m (put_mid k j ints (put_chunk 0 (take j (drop k ints)) (a ∷ b ∷ []))) ≡ map int_of (take m words))
       (sym two)
       (subst (λ j.
       take j (put_mid k 2 ints (put_chunk 0 (take 2 (drop k ints)) (a ∷ b ∷ []))) ≡ map int_of (take j words)) next

@@ -1,8 +1,7 @@
 -- Answers of put_by_row: the numbers of the words of eight locations go in, and the words of what comes out are put.
-use Rattle.std.proofs.Common.{◌≡◌, ◌∙◌, ap, map, drop, take, Some, option_map}
-use Rattle.rev_num.specs.Words.{int_of, word_of}
-use Rattle.merge_kernels.specs.Lanes.{lanes_answer}
-use Rattle.merge_kernels.specs.Terms.{answer_of, definition}
+use Rattle.std.proofs.Common.{◌∙◌, ap, map}
+use Rattle.rev_num.specs.Words.{int_of}
+use Rattle.merge_kernels.specs.Terms.{definition}
 use Rattle.merge_kernels.proofs.RowRuns.{row_put}
 use Rattle.merge_kernels.proofs.words.put_by_row.Goals as goal
 

@@ -1,4 +1,4 @@
--- Answers of PlanMerges::merge_eights: what the plan puts, it puts beside any other merges, so beside the versioned ones.
+-- Answers of PlanMerges::merge_eights: what the plan puts stands beside any other merges, so beside the versioned ones.
 use Rattle.kernel_cases.specs.Versioned.{versioned}
 use Rattle.kernel_cases.proofs.merges.PlanMergesMergeBy.merge_eights.Goals as goal
 

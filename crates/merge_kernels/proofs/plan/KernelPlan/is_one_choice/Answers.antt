@@ -1,5 +1,5 @@
 -- Answers of KernelPlan::is_one_choice: eight that are alike have the choice of the first of them.
-use Rattle.std.proofs.Common.{◌+◌, ◌≤◌, arith}
+use Rattle.std.proofs.Common.{◌≤◌, arith}
 use Rattle.merge_kernels.proofs.LevelRows.{like_row, part_alike}
 use Rattle.merge_kernels.proofs.plan.KernelPlan.is_one_choice.Goals as goal
 

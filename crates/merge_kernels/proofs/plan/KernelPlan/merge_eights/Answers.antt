@@ -1,5 +1,5 @@
 -- Answers of KernelPlan::merge_eights: the definition that was chosen for the first was chosen for the run.
-use Rattle.std.proofs.Common.{◌≡◌, ◌*◌, ◌/◌, map, drop, arith}
+use Rattle.std.proofs.Common.{◌*◌, ◌/◌, map, drop, arith}
 use Rattle.version_map.proofs.RowParts.{none_put}
 use Rattle.merge_kernels.specs.Terms.{definition}
 use Rattle.merge_kernels.specs.Words.{overlaid}
