@@ -50,6 +50,7 @@ impl<'k> MergeBy for PlanMerges<'k> {
             None => None,
         }
     }
+
     fn merge_eights(
         &mut self,
         mains: &[u64],

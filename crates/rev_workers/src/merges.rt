@@ -66,6 +66,7 @@ impl<'k, M: MergeBy> MergeBy for KernelMerges<'k, M> {
             None => None,
         }
     }
+
     fn merge_eights(
         &mut self,
         mains: &[u64],

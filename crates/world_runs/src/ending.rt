@@ -15,8 +15,8 @@ ghost use Rattle.world_runs.specs.KeptByLegs.{HasFinishedKeeping, HasLeastKeepin
 use crate::legs::Legs;
 use crate::made::{Made, sort_out};
 use crate::notes::note;
-use code_world::{CodeSetting, World};
 use crate::queue::ReadyQueue;
+use code_world::{CodeSetting, World};
 use std::alloc::{AllocError, Global};
 use version_map::MergeBy;
 

@@ -7,8 +7,8 @@ ghost use Rattle.revision_machine.specs.Numbered.{Entries};
 ghost use Rattle.world_runs.specs.Covers.{IsKnown, IsNoted, IsStill};
 ghost use Rattle.world_runs.specs.Queue.{HasReady, KeepsAll};
 
-use code_world::LegAnswer;
 use crate::queue::ReadyQueue;
+use code_world::LegAnswer;
 use std::alloc::{AllocError, Global};
 
 /// Notes how the leg of a revision came out.
