@@ -13,15 +13,16 @@ use Rattle.rev_expressions.specs.Outcome.{Outcome, Read, and_then}
 use Rattle.rev_expressions.specs.Reader.{begins, read, below}
 use Rattle.rev_syntax.specs.declared.token.Fixed.TheVariants as s
 use Rattle.rev_expressions.specs.Grammar.{place as place_of}
-use Rattle.rev_expressions.specs.Grammar.{alphabet, Rule, sign, rank_sign, bracketed, choice, name, name_tail, primary, unary, product, sum, comparison, conjunction, expr, parens, index, arguments, parts}
-use Rattle.rev_expressions.specs.Statements.{block, actual, application, right_side, item, assigned, assignment, arm, else_part, else_parts, let_form, if_form, while_form, call_form, return_form, fork_form, join_form, print_form, assert_form, statement, statements, body}
-use Rattle.rev_expressions.specs.Declarations.{kind, constant, cells, size, first_value, param, params, names, formal, head, meaning, fun_form, merge_form, variable, versioned_form, cumulative_form, proc_form, declaration, declarations, program, inner}
+use Rattle.rev_expressions.specs.Grammar.{alphabet, Rule, sign}
+use Rattle.rev_expressions.specs.Statements.{block, statement, statements, body}
+use Rattle.rev_expressions.specs.Declarations.{declaration, program}
 use Rattle.rev_expressions.specs.Parse.{parse}
 use Rattle.program_texts.proofs.Chunks.{Chunk, place, seen, named, HasPieces, HasIn, tokens_in}
 use Rattle.program_texts.proofs.Parsing.{Rows, read_all}
 use Rattle.program_texts.proofs.LoadChunks.{Line, add_remainder, add_constant, set_product, statement_chunk, statement_chunks, sum_line, most_line, a_line, b_line, v_line, work_line, let_line, while_line, step_line, end_line, main_line, go_lines, start_line, a_low, a_high, b_low, b_high, v_low, v_high, first_chunks, last_chunks}
 use Rattle.program_texts.proofs.LoadTrees.{sum_tree, most_tree, array_tree, let_tree, while_test, step_tree, go_tree, start_tree, print_tree, statement_tree, lines_at, statement_trees, after, as_spelled, read_sum, read_most, read_a, read_b, read_v, read_let, read_step, read_go, read_start, read_statement, read_a_low, read_a_high, read_b_low, read_b_high, read_v_low, read_v_high}
 use Rattle.program_texts.proofs.LoadRules.{Places, work_tree, main_tree, inside_tree, program_tree}
+use Rattle.program_texts.proofs.WholeGrammar.{whole_grammar}
 
 abbrev is_some : List Token → Bool
 is_some [] = false
@@ -54,11 +55,7 @@ module _ (bytes : List ℕ) where
 
   begins_statement : (at : ℕ) (us : List Token) (x : Line)
       → begins alphabet (statement bytes) (tokens_of at (statement_chunk x).pieces ++ us) ≡ true
-  unfolding read below rank_sign bracketed choice name name_tail primary unary product sum comparison conjunction expr
-      parens index arguments parts block actual application right_side item assigned assignment arm else_part else_parts
-      let_form if_form while_form call_form return_form fork_form join_form print_form assert_form statement statements
-      body kind constant cells size first_value param params names formal head meaning fun_form merge_form variable
-      versioned_form cumulative_form proc_form declaration declarations program inner
+  unfolding read below whole_grammar
   begins_statement at us (add_remainder x c) = refl
   begins_statement at us (add_constant x c) = refl
   begins_statement at us (set_product x c) = refl
@@ -70,38 +67,22 @@ module _ (bytes : List ℕ) where
 
   begins_step : (at : ℕ) (us : List Token)
       → begins alphabet (statement bytes) (tokens_of at step_line.pieces ++ us) ≡ true
-  unfolding read below rank_sign bracketed choice name name_tail primary unary product sum comparison conjunction expr
-      parens index arguments parts block actual application right_side item assigned assignment arm else_part else_parts
-      let_form if_form while_form call_form return_form fork_form join_form print_form assert_form statement statements
-      body kind constant cells size first_value param params names formal head meaning fun_form merge_form variable
-      versioned_form cumulative_form proc_form declaration declarations program inner
+  unfolding read below whole_grammar
   begins_step at us = refl
 
   begins_let : (at : ℕ) (us : List Token)
       → begins alphabet (statement bytes) (tokens_of at let_line.pieces ++ us) ≡ true
-  unfolding read below rank_sign bracketed choice name name_tail primary unary product sum comparison conjunction expr
-      parens index arguments parts block actual application right_side item assigned assignment arm else_part else_parts
-      let_form if_form while_form call_form return_form fork_form join_form print_form assert_form statement statements
-      body kind constant cells size first_value param params names formal head meaning fun_form merge_form variable
-      versioned_form cumulative_form proc_form declaration declarations program inner
+  unfolding read below whole_grammar
   begins_let at us = refl
 
   begins_while : (at : ℕ) (us : List Token)
       → begins alphabet (statement bytes) (tokens_of at while_line.pieces ++ us) ≡ true
-  unfolding read below rank_sign bracketed choice name name_tail primary unary product sum comparison conjunction expr
-      parens index arguments parts block actual application right_side item assigned assignment arm else_part else_parts
-      let_form if_form while_form call_form return_form fork_form join_form print_form assert_form statement statements
-      body kind constant cells size first_value param params names formal head meaning fun_form merge_form variable
-      versioned_form cumulative_form proc_form declaration declarations program inner
+  unfolding read below whole_grammar
   begins_while at us = refl
 
   stops_at_end : (at : ℕ) (us : List Token)
       → begins alphabet (statement bytes) (tokens_of at end_line.pieces ++ us) ≡ false
-  unfolding read below rank_sign bracketed choice name name_tail primary unary product sum comparison conjunction expr
-      parens index arguments parts block actual application right_side item assigned assignment arm else_part else_parts
-      let_form if_form while_form call_form return_form fork_form join_form print_form assert_form statement statements
-      body kind constant cells size first_value param params names formal head meaning fun_form merge_form variable
-      versioned_form cumulative_form proc_form declaration declarations program inner
+  unfolding read below whole_grammar
   stops_at_end at us = refl
 
   abbrev behind : ℕ → Chunk → ℕ
@@ -164,11 +145,7 @@ module _ (bytes : List ℕ) where
       (while_test (place at while_line.pieces) (seen bytes at while_line.pieces) (lines_at bytes at while_line.pieces))
       inside))
       us
-  unfolding read below rank_sign bracketed choice name name_tail primary unary product sum comparison conjunction expr
-      parens index arguments parts block actual application right_side item assigned assignment arm else_part else_parts
-      let_form if_form while_form call_form return_form fork_form join_form print_form assert_form statement statements
-      body kind constant cells size first_value param params names formal head meaning fun_form merge_form variable
-      versioned_form cumulative_form proc_form declaration declarations program inner
+  unfolding read below whole_grammar
   read_loop_seen n at ts us inside h =
       let test =
       while_test (place at while_line.pieces) (seen bytes at while_line.pieces) (lines_at bytes at while_line.pieces) in
@@ -216,11 +193,7 @@ module _ (bytes : List ℕ) where
       → parse bytes (suc (suc (suc n))) (body bytes) ts ≡ Read inside us
       → parse bytes (suc (suc (suc (suc n)))) (declaration bytes) (tokens_of at work_line.pieces ++ ts)
       ≡ Read (work_seen (place at work_line.pieces) (named at work_line.pieces) inside) us
-  unfolding read below rank_sign bracketed choice name name_tail primary unary product sum comparison conjunction expr
-      parens index arguments parts block actual application right_side item assigned assignment arm else_part else_parts
-      let_form if_form while_form call_form return_form fork_form join_form print_form assert_form statement statements
-      body kind constant cells size first_value param params names formal head meaning fun_form merge_form variable
-      versioned_form cumulative_form proc_form declaration declarations program inner
+  unfolding read below whole_grammar
   read_work n at ts us inside has h =
       let W = seen bytes at work_line.pieces in
       let q = place at work_line.pieces in
@@ -390,11 +363,7 @@ module _ (bytes : List ℕ) (size' : ℕ) (xs : List Line) where
         (go_tree (place places.go_at go_lines.pieces) (named places.go_at go_lines.pieces)
         (lines_at bytes places.go_at go_lines.pieces)
         ∷ [])
-    unfolding read below rank_sign bracketed choice name name_tail primary unary product sum comparison conjunction expr
-        parens index arguments parts block actual application right_side item assigned assignment arm else_part
-        else_parts let_form if_form while_form call_form return_form fork_form join_form print_form assert_form
-        statement statements body kind constant cells size first_value param params names formal head meaning fun_form
-        merge_form variable versioned_form cumulative_form proc_form declaration declarations program inner
+    unfolding read below whole_grammar
     go_rows n = (
       end_of_declarations,
       refl,
@@ -411,11 +380,7 @@ module _ (bytes : List ℕ) (size' : ℕ) (xs : List Line) where
         ∷ go_tree (place places.go_at go_lines.pieces) (named places.go_at go_lines.pieces)
         (lines_at bytes places.go_at go_lines.pieces)
         ∷ [])
-    unfolding read below rank_sign bracketed choice name name_tail primary unary product sum comparison conjunction expr
-        parens index arguments parts block actual application right_side item assigned assignment arm else_part
-        else_parts let_form if_form while_form call_form return_form fork_form join_form print_form assert_form
-        statement statements body kind constant cells size first_value param params names formal head meaning fun_form
-        merge_form variable versioned_form cumulative_form proc_form declaration declarations program inner
+    unfolding read below whole_grammar
     work_and_go n =
         let body_tokens =
         tokens_of places.let_at let_line.pieces ++ (tokens_of places.while_at while_line.pieces ++ loop_tokens) in
@@ -437,11 +402,7 @@ module _ (bytes : List ℕ) (size' : ℕ) (xs : List Line) where
       sum_row : HasPieces bytes at sum_line.pieces → DeclarationRows n ts ds
           → DeclarationRows n (tokens_of at sum_line.pieces ++ ts)
           (sum_tree (place at sum_line.pieces) (named at sum_line.pieces) (lines_at bytes at sum_line.pieces) ∷ ds)
-      unfolding read below rank_sign bracketed choice name name_tail primary unary product sum comparison conjunction
-          expr parens index arguments parts block actual application right_side item assigned assignment arm else_part
-          else_parts let_form if_form while_form call_form return_form fork_form join_form print_form assert_form
-          statement statements body kind constant cells size first_value param params names formal head meaning fun_form
-          merge_form variable versioned_form cumulative_form proc_form declaration declarations program inner
+      unfolding read below whole_grammar
       sum_row h more = (
         ts,
         refl,
@@ -455,11 +416,7 @@ module _ (bytes : List ℕ) (size' : ℕ) (xs : List Line) where
       most_row : HasPieces bytes at most_line.pieces → DeclarationRows n ts ds
           → DeclarationRows n (tokens_of at most_line.pieces ++ ts)
           (most_tree (place at most_line.pieces) (named at most_line.pieces) (lines_at bytes at most_line.pieces) ∷ ds)
-      unfolding read below rank_sign bracketed choice name name_tail primary unary product sum comparison conjunction
-          expr parens index arguments parts block actual application right_side item assigned assignment arm else_part
-          else_parts let_form if_form while_form call_form return_form fork_form join_form print_form assert_form
-          statement statements body kind constant cells size first_value param params names formal head meaning fun_form
-          merge_form variable versioned_form cumulative_form proc_form declaration declarations program inner
+      unfolding read below whole_grammar
       most_row h more = (
         ts,
         refl,
@@ -475,11 +432,7 @@ module _ (bytes : List ℕ) (size' : ℕ) (xs : List Line) where
           (array_tree (place at a_line.pieces) (named at a_line.pieces) (lines_at bytes at a_line.pieces)
           (Some (named at a_line.pieces 13))
           ∷ ds)
-      unfolding read below rank_sign bracketed choice name name_tail primary unary product sum comparison conjunction
-          expr parens index arguments parts block actual application right_side item assigned assignment arm else_part
-          else_parts let_form if_form while_form call_form return_form fork_form join_form print_form assert_form
-          statement statements body kind constant cells size first_value param params names formal head meaning fun_form
-          merge_form variable versioned_form cumulative_form proc_form declaration declarations program inner
+      unfolding read below whole_grammar
       a_row h more = (
         ts,
         refl,
@@ -495,11 +448,7 @@ module _ (bytes : List ℕ) (size' : ℕ) (xs : List Line) where
           (array_tree (place at b_line.pieces) (named at b_line.pieces) (lines_at bytes at b_line.pieces)
           (Some (named at b_line.pieces 13))
           ∷ ds)
-      unfolding read below rank_sign bracketed choice name name_tail primary unary product sum comparison conjunction
-          expr parens index arguments parts block actual application right_side item assigned assignment arm else_part
-          else_parts let_form if_form while_form call_form return_form fork_form join_form print_form assert_form
-          statement statements body kind constant cells size first_value param params names formal head meaning fun_form
-          merge_form variable versioned_form cumulative_form proc_form declaration declarations program inner
+      unfolding read below whole_grammar
       b_row h more = (
         ts,
         refl,
@@ -513,11 +462,7 @@ module _ (bytes : List ℕ) (size' : ℕ) (xs : List Line) where
       v_row : HasPieces bytes at v_line.pieces → DeclarationRows n ts ds
           → DeclarationRows n (tokens_of at v_line.pieces ++ ts)
           (array_tree (place at v_line.pieces) (named at v_line.pieces) (lines_at bytes at v_line.pieces) None ∷ ds)
-      unfolding read below rank_sign bracketed choice name name_tail primary unary product sum comparison conjunction
-          expr parens index arguments parts block actual application right_side item assigned assignment arm else_part
-          else_parts let_form if_form while_form call_form return_form fork_form join_form print_form assert_form
-          statement statements body kind constant cells size first_value param params names formal head meaning fun_form
-          merge_form variable versioned_form cumulative_form proc_form declaration declarations program inner
+      unfolding read below whole_grammar
       v_row h more = (
         ts,
         refl,
@@ -570,11 +515,7 @@ module _ (bytes : List ℕ) (size' : ℕ) (xs : List Line) where
           (start_tree (place at (start_line size').pieces) (named at (start_line size').pieces)
           (lines_at bytes at (start_line size').pieces) size'
           ∷ ss)
-      unfolding read below rank_sign bracketed choice name name_tail primary unary product sum comparison conjunction
-          expr parens index arguments parts block actual application right_side item assigned assignment arm else_part
-          else_parts let_form if_form while_form call_form return_form fork_form join_form print_form assert_form
-          statement statements body kind constant cells size first_value param params names formal head meaning fun_form
-          merge_form variable versioned_form cumulative_form proc_form declaration declarations program inner
+      unfolding read below whole_grammar
       start_row h more = (
         ts,
         refl,
@@ -602,11 +543,7 @@ module _ (bytes : List ℕ) (size' : ℕ) (xs : List Line) where
       )
 
     main_rows : (n : ℕ) → MainRows n main_tokens (main_tree bytes size' places)
-    unfolding read below rank_sign bracketed choice name name_tail primary unary product sum comparison conjunction expr
-        parens index arguments parts block actual application right_side item assigned assignment arm else_part
-        else_parts let_form if_form while_form call_form return_form fork_form join_form print_form assert_form
-        statement statements body kind constant cells size first_value param params names formal head meaning fun_form
-        merge_form variable versioned_form cumulative_form proc_form declaration declarations program inner
+    unfolding read below whole_grammar
     main_rows n =
         let h = has_behind.1.1.1.1.1 in
         let t7 = tokens_of (from places.v_high_at v_high) end_line.pieces ++ [] in
@@ -653,11 +590,7 @@ module _ (bytes : List ℕ) (size' : ℕ) (xs : List Line) where
     pub read_program : (n : ℕ)
         → parse bytes (suc (suc (suc (suc n)))) (program bytes) (tokens_in 0 chunks [])
         ≡ Read (program_tree bytes size' places loop_tree) []
-    unfolding read below rank_sign bracketed choice name name_tail primary unary product sum comparison conjunction expr
-        parens index arguments parts block actual application right_side item assigned assignment arm else_part
-        else_parts let_form if_form while_form call_form return_form fork_form join_form print_form assert_form
-        statement statements body kind constant cells size first_value param params names formal head meaning fun_form
-        merge_form variable versioned_form cumulative_form proc_form declaration declarations program inner
+    unfolding read below whole_grammar
     read_program n =
         let m = suc (suc (suc (suc n))) in
         let ds = (program_tree bytes size' places loop_tree).declarations in

@@ -13,12 +13,12 @@ use Rattle.rev_syntax.specs.declared.token.Token.{Token}
 use Rattle.rev_syntax.specs.declared.token.Fixed.TheVariants as s
 use Rattle.rev_expressions.specs.Outcome.{Outcome, Read}
 use Rattle.rev_expressions.specs.Reader.{read, below}
-use Rattle.rev_expressions.specs.Grammar.{rank_sign, bracketed, choice, name, name_tail, primary, unary, product, sum, comparison, conjunction, expr, parens, index, arguments, parts}
-use Rattle.rev_expressions.specs.Statements.{block, actual, application, right_side, item, assigned, assignment, arm, else_part, else_parts, let_form, if_form, while_form, call_form, return_form, fork_form, join_form, print_form, assert_form, statement, statements, body}
-use Rattle.rev_expressions.specs.Declarations.{kind, constant, cells, size, first_value, param, params, names, formal, head, meaning, fun_form, merge_form, variable, versioned_form, cumulative_form, proc_form, declaration, declarations, program, inner}
+use Rattle.rev_expressions.specs.Statements.{statement}
+use Rattle.rev_expressions.specs.Declarations.{declaration}
 use Rattle.rev_expressions.specs.Parse.{parse}
 use Rattle.program_texts.proofs.Chunks.{Chunk, place, seen, named, HasPieces, as_named}
 use Rattle.program_texts.proofs.LoadChunks.{Line, add_remainder, add_constant, set_product, statement_chunk, sum_line, most_line, a_line, b_line, v_line, let_line, step_line, go_lines, start_line, a_low, a_high, b_low, b_high, v_low, v_high}
+use Rattle.program_texts.proofs.WholeGrammar.{whole_grammar}
 
 -- ---- trees
 
@@ -124,83 +124,51 @@ module _ (bytes : List ℕ) (n at : ℕ) (rest : List Token) where
   pub read_sum : parse bytes (suc (suc n)) (declaration bytes) (tokens_of at sum_line.pieces ++ rest)
       ≡ Read (sum_tree (place at sum_line.pieces) (seen bytes at sum_line.pieces) (lines_at bytes at sum_line.pieces))
       rest
-  unfolding read below rank_sign bracketed choice name name_tail primary unary product sum comparison conjunction expr
-      parens index arguments parts block actual application right_side item assigned assignment arm else_part else_parts
-      let_form if_form while_form call_form return_form fork_form join_form print_form assert_form statement statements
-      body kind constant cells size first_value param params names formal head meaning fun_form merge_form variable
-      versioned_form cumulative_form proc_form declaration declarations program inner
+  unfolding read below whole_grammar
   read_sum = refl
 
   pub read_most : parse bytes (suc (suc n)) (declaration bytes) (tokens_of at most_line.pieces ++ rest)
       ≡ Read
       (most_tree (place at most_line.pieces) (seen bytes at most_line.pieces) (lines_at bytes at most_line.pieces)) rest
-  unfolding read below rank_sign bracketed choice name name_tail primary unary product sum comparison conjunction expr
-      parens index arguments parts block actual application right_side item assigned assignment arm else_part else_parts
-      let_form if_form while_form call_form return_form fork_form join_form print_form assert_form statement statements
-      body kind constant cells size first_value param params names formal head meaning fun_form merge_form variable
-      versioned_form cumulative_form proc_form declaration declarations program inner
+  unfolding read below whole_grammar
   read_most = refl
 
   pub read_a : parse bytes (suc (suc n)) (declaration bytes) (tokens_of at a_line.pieces ++ rest)
       ≡ Read (array_tree (place at a_line.pieces) (seen bytes at a_line.pieces) (lines_at bytes at a_line.pieces)
       (Some (seen bytes at a_line.pieces 13)))
       rest
-  unfolding read below rank_sign bracketed choice name name_tail primary unary product sum comparison conjunction expr
-      parens index arguments parts block actual application right_side item assigned assignment arm else_part else_parts
-      let_form if_form while_form call_form return_form fork_form join_form print_form assert_form statement statements
-      body kind constant cells size first_value param params names formal head meaning fun_form merge_form variable
-      versioned_form cumulative_form proc_form declaration declarations program inner
+  unfolding read below whole_grammar
   read_a = refl
 
   pub read_b : parse bytes (suc (suc n)) (declaration bytes) (tokens_of at b_line.pieces ++ rest)
       ≡ Read (array_tree (place at b_line.pieces) (seen bytes at b_line.pieces) (lines_at bytes at b_line.pieces)
       (Some (seen bytes at b_line.pieces 13)))
       rest
-  unfolding read below rank_sign bracketed choice name name_tail primary unary product sum comparison conjunction expr
-      parens index arguments parts block actual application right_side item assigned assignment arm else_part else_parts
-      let_form if_form while_form call_form return_form fork_form join_form print_form assert_form statement statements
-      body kind constant cells size first_value param params names formal head meaning fun_form merge_form variable
-      versioned_form cumulative_form proc_form declaration declarations program inner
+  unfolding read below whole_grammar
   read_b = refl
 
   pub read_v : parse bytes (suc (suc n)) (declaration bytes) (tokens_of at v_line.pieces ++ rest)
       ≡ Read (array_tree (place at v_line.pieces) (seen bytes at v_line.pieces) (lines_at bytes at v_line.pieces) None)
       rest
-  unfolding read below rank_sign bracketed choice name name_tail primary unary product sum comparison conjunction expr
-      parens index arguments parts block actual application right_side item assigned assignment arm else_part else_parts
-      let_form if_form while_form call_form return_form fork_form join_form print_form assert_form statement statements
-      body kind constant cells size first_value param params names formal head meaning fun_form merge_form variable
-      versioned_form cumulative_form proc_form declaration declarations program inner
+  unfolding read below whole_grammar
   read_v = refl
 
   pub read_let : parse bytes (suc (suc n)) (statement bytes) (tokens_of at let_line.pieces ++ rest)
       ≡ Read (let_tree (place at let_line.pieces) (seen bytes at let_line.pieces) (lines_at bytes at let_line.pieces))
       rest
-  unfolding read below rank_sign bracketed choice name name_tail primary unary product sum comparison conjunction expr
-      parens index arguments parts block actual application right_side item assigned assignment arm else_part else_parts
-      let_form if_form while_form call_form return_form fork_form join_form print_form assert_form statement statements
-      body kind constant cells size first_value param params names formal head meaning fun_form merge_form variable
-      versioned_form cumulative_form proc_form declaration declarations program inner
+  unfolding read below whole_grammar
   read_let = refl
 
   pub read_step : parse bytes (suc (suc n)) (statement bytes) (tokens_of at step_line.pieces ++ rest)
       ≡ Read
       (step_tree (place at step_line.pieces) (seen bytes at step_line.pieces) (lines_at bytes at step_line.pieces)) rest
-  unfolding read below rank_sign bracketed choice name name_tail primary unary product sum comparison conjunction expr
-      parens index arguments parts block actual application right_side item assigned assignment arm else_part else_parts
-      let_form if_form while_form call_form return_form fork_form join_form print_form assert_form statement statements
-      body kind constant cells size first_value param params names formal head meaning fun_form merge_form variable
-      versioned_form cumulative_form proc_form declaration declarations program inner
+  unfolding read below whole_grammar
   read_step = refl
 
   pub read_go : parse bytes (suc (suc (suc (suc n)))) (declaration bytes) (tokens_of at go_lines.pieces ++ rest)
       ≡ Read (go_tree (place at go_lines.pieces) (seen bytes at go_lines.pieces) (lines_at bytes at go_lines.pieces))
       rest
-  unfolding read below rank_sign bracketed choice name name_tail primary unary product sum comparison conjunction expr
-      parens index arguments parts block actual application right_side item assigned assignment arm else_part else_parts
-      let_form if_form while_form call_form return_form fork_form join_form print_form assert_form statement statements
-      body kind constant cells size first_value param params names formal head meaning fun_form merge_form variable
-      versioned_form cumulative_form proc_form declaration declarations program inner
+  unfolding read below whole_grammar
   read_go = refl
 
   pub read_start : (size' : ℕ)
@@ -208,11 +176,7 @@ module _ (bytes : List ℕ) (n at : ℕ) (rest : List Token) where
       ≡ Read (start_tree (place at (start_line size').pieces) (seen bytes at (start_line size').pieces)
       (lines_at bytes at (start_line size').pieces) size')
       rest
-  unfolding read below rank_sign bracketed choice name name_tail primary unary product sum comparison conjunction expr
-      parens index arguments parts block actual application right_side item assigned assignment arm else_part else_parts
-      let_form if_form while_form call_form return_form fork_form join_form print_form assert_form statement statements
-      body kind constant cells size first_value param params names formal head meaning fun_form merge_form variable
-      versioned_form cumulative_form proc_form declaration declarations program inner
+  unfolding read below whole_grammar
   read_start size' = refl
 
   pub read_statement : (x : Line)
@@ -220,11 +184,7 @@ module _ (bytes : List ℕ) (n at : ℕ) (rest : List Token) where
       ≡ Read (statement_tree (place at (statement_chunk x).pieces) (seen bytes at (statement_chunk x).pieces)
       (lines_at bytes at (statement_chunk x).pieces) x)
       rest
-  unfolding read below rank_sign bracketed choice name name_tail primary unary product sum comparison conjunction expr
-      parens index arguments parts block actual application right_side item assigned assignment arm else_part else_parts
-      let_form if_form while_form call_form return_form fork_form join_form print_form assert_form statement statements
-      body kind constant cells size first_value param params names formal head meaning fun_form merge_form variable
-      versioned_form cumulative_form proc_form declaration declarations program inner
+  unfolding read below whole_grammar
   read_statement (add_remainder x c) = refl
   read_statement (add_constant x c) = refl
   read_statement (set_product x c) = refl
@@ -235,51 +195,27 @@ module _ (bytes : List ℕ) (n at : ℕ) (rest : List Token) where
       ≡ Read (print_tree (place at c.pieces) (seen bytes at c.pieces) (lines_at bytes at c.pieces) m) rest
 
   pub read_a_low : IsPrint a_low 0
-  unfolding read below rank_sign bracketed choice name name_tail primary unary product sum comparison conjunction expr
-      parens index arguments parts block actual application right_side item assigned assignment arm else_part else_parts
-      let_form if_form while_form call_form return_form fork_form join_form print_form assert_form statement statements
-      body kind constant cells size first_value param params names formal head meaning fun_form merge_form variable
-      versioned_form cumulative_form proc_form declaration declarations program inner
+  unfolding read below whole_grammar
   read_a_low = refl
 
   pub read_a_high : IsPrint a_high 8
-  unfolding read below rank_sign bracketed choice name name_tail primary unary product sum comparison conjunction expr
-      parens index arguments parts block actual application right_side item assigned assignment arm else_part else_parts
-      let_form if_form while_form call_form return_form fork_form join_form print_form assert_form statement statements
-      body kind constant cells size first_value param params names formal head meaning fun_form merge_form variable
-      versioned_form cumulative_form proc_form declaration declarations program inner
+  unfolding read below whole_grammar
   read_a_high = refl
 
   pub read_b_low : IsPrint b_low 0
-  unfolding read below rank_sign bracketed choice name name_tail primary unary product sum comparison conjunction expr
-      parens index arguments parts block actual application right_side item assigned assignment arm else_part else_parts
-      let_form if_form while_form call_form return_form fork_form join_form print_form assert_form statement statements
-      body kind constant cells size first_value param params names formal head meaning fun_form merge_form variable
-      versioned_form cumulative_form proc_form declaration declarations program inner
+  unfolding read below whole_grammar
   read_b_low = refl
 
   pub read_b_high : IsPrint b_high 8
-  unfolding read below rank_sign bracketed choice name name_tail primary unary product sum comparison conjunction expr
-      parens index arguments parts block actual application right_side item assigned assignment arm else_part else_parts
-      let_form if_form while_form call_form return_form fork_form join_form print_form assert_form statement statements
-      body kind constant cells size first_value param params names formal head meaning fun_form merge_form variable
-      versioned_form cumulative_form proc_form declaration declarations program inner
+  unfolding read below whole_grammar
   read_b_high = refl
 
   pub read_v_low : IsPrint v_low 0
-  unfolding read below rank_sign bracketed choice name name_tail primary unary product sum comparison conjunction expr
-      parens index arguments parts block actual application right_side item assigned assignment arm else_part else_parts
-      let_form if_form while_form call_form return_form fork_form join_form print_form assert_form statement statements
-      body kind constant cells size first_value param params names formal head meaning fun_form merge_form variable
-      versioned_form cumulative_form proc_form declaration declarations program inner
+  unfolding read below whole_grammar
   read_v_low = refl
 
   pub read_v_high : IsPrint v_high 8
-  unfolding read below rank_sign bracketed choice name name_tail primary unary product sum comparison conjunction expr
-      parens index arguments parts block actual application right_side item assigned assignment arm else_part else_parts
-      let_form if_form while_form call_form return_form fork_form join_form print_form assert_form statement statements
-      body kind constant cells size first_value param params names formal head meaning fun_form merge_form variable
-      versioned_form cumulative_form proc_form declaration declarations program inner
+  unfolding read below whole_grammar
   read_v_high = refl
 
 -- ---- the statements of the loop, at their places

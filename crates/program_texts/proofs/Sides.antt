@@ -11,10 +11,10 @@ use Rattle.rev_expressions.specs.Outcome.{left}
 use Rattle.rev_expressions.proofs.Words.{null_sound}
 use Rattle.rev_expressions.specs.Classes.{Class, class_of, is_same}
 use Rattle.rev_expressions.specs.Classes as class
-use Rattle.rev_expressions.specs.Grammar.{alphabet, Rule, Inner, Value, Operand, Parens, Index, Arguments, Parts, Body, Params, Names, Cells, rank_sign, bracketed, choice, name, name_tail, primary, unary, product, sum, comparison, conjunction, expr, parens, index, arguments, parts}
-use Rattle.rev_expressions.specs.Statements.{block, actual, application, right_side, item, assigned, assignment, arm, else_part, else_parts, let_form, if_form, while_form, call_form, return_form, fork_form, join_form, print_form, assert_form, statement, statements, body}
-use Rattle.rev_expressions.specs.Declarations.{kind, constant, cells, size, first_value, param, params, names, formal, head, meaning, fun_form, merge_form, variable, versioned_form, cumulative_form, proc_form, declaration, declarations, program, inner}
+use Rattle.rev_expressions.specs.Grammar.{alphabet, Rule, Inner, Value, Operand, Parens, Index, Arguments, Parts, Body, Params, Names, Cells}
+use Rattle.rev_expressions.specs.Declarations.{program, inner}
 use Rattle.rev_parse.specs.Verdicts.{IsProgram}
+use Rattle.program_texts.proofs.WholeGrammar.{whole_grammar}
 
 -- ---- tokens
 
@@ -254,11 +254,7 @@ module _ (I : (i : Inner) → Lang alphabet (Value i))
 
 module _ (bytes : List ℕ) where
   rule_apart : (i : Inner) → keeps_apart (inner bytes i) ≡ true
-  unfolding rank_sign bracketed choice name name_tail primary unary product sum comparison conjunction expr parens index
-      arguments parts block actual application right_side item assigned assignment arm else_part else_parts let_form
-      if_form while_form call_form return_form fork_form join_form print_form assert_form statement statements body kind
-      constant cells size first_value param params names formal head meaning fun_form merge_form variable versioned_form
-      cumulative_form proc_form declaration declarations program inner
+  unfolding whole_grammar
   rule_apart Operand = refl
   rule_apart Parens = refl
   rule_apart Index = refl
@@ -270,11 +266,7 @@ module _ (bytes : List ℕ) where
   rule_apart Cells = refl
 
   rule_ends : (i : Inner) → ends_named (inner bytes i) ≡ may_end i
-  unfolding rank_sign bracketed choice name name_tail primary unary product sum comparison conjunction expr parens index
-      arguments parts block actual application right_side item assigned assignment arm else_part else_parts let_form
-      if_form while_form call_form return_form fork_form join_form print_form assert_form statement statements body kind
-      constant cells size first_value param params names formal head meaning fun_form merge_form variable versioned_form
-      cumulative_form proc_form declaration declarations program inner
+  unfolding whole_grammar
   rule_ends Operand = refl
   rule_ends Parens = refl
   rule_ends Index = refl
@@ -286,11 +278,7 @@ module _ (bytes : List ℕ) where
   rule_ends Cells = refl
 
   program_apart : keeps_apart (program bytes) ≡ true
-  unfolding rank_sign bracketed choice name name_tail primary unary product sum comparison conjunction expr parens index
-      arguments parts block actual application right_side item assigned assignment arm else_part else_parts let_form
-      if_form while_form call_form return_form fork_form join_form print_form assert_form statement statements body kind
-      constant cells size first_value param params names formal head meaning fun_form merge_form variable versioned_form
-      cumulative_form proc_form declaration declarations program inner
+  unfolding whole_grammar
   program_apart = refl
 
   fine_nested : (d : ℕ) (i : Inner) (n k : ℕ) (ts : List Token) (y : Value i)

@@ -1,4 +1,4 @@
--- What proves `enter`.
+-- Answers of enter: an insert in the map by the numbers of a path enters that path, and leaves all others.
 use Rattle.std.proofs.Common.{subst, ◌∙◌}
 use Rattle.revision_machine.specs.PathIndex.{IsEntered}
 use Rattle.revision_machine.proofs.PathIndex.{entered}

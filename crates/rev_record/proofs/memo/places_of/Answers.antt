@@ -1,4 +1,4 @@
--- What proves `places_of`.
+-- Answers of places_of: the places are those of the entries so far, and one more is entered by its path.
 use Rattle.std.proofs.Common.{subst, sym}
 use Rattle.revision_machine.specs.PathIndex.{IsEntered}
 use Rattle.rev_record.proofs.Known.{indexed_entry}

@@ -1,4 +1,4 @@
--- What proves `keep_entry`.
+-- Answers of keep_entry: what the leaf began with, read and left is that of its path in the run, and so is the entry.
 use Rattle.std.proofs.Common.{◌∙◌, Some, sym, ap}
 use Rattle.std.specs.Prelude.{option_copied}
 use Rattle.revision_machine.specs.Numbered.{Listing, paths_of}

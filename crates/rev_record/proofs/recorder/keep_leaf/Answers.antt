@@ -1,4 +1,4 @@
--- What proves `keep_leaf`.
+-- Answers of keep_leaf: a leg that ends a leaf keeps one entry more, and behind any other the entries are as they were.
 use Rattle.std.proofs.Common.{◌∙◌, sym}
 use Rattle.revision_machine.specs.Numbered.{Listing}
 use Rattle.rev_vm.specs.Starts.{run_under}

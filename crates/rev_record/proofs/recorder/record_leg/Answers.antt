@@ -1,4 +1,4 @@
--- What proves `record_leg`.
+-- Answers of record_leg: the blank marks have room for all locations and inputs, so the leg can note its reads.
 use Rattle.std.proofs.Common.{◌∙◌, sym, subst}
 use Rattle.block_run.proofs.Tables.{few_locations}
 use Rattle.code_soundness.proofs.Accepting.{no_fault_accepted}

@@ -1,4 +1,4 @@
--- What proves `known_end`.
+-- Answers of known_end: a valid entry at the revision's path has the end that it comes to, and else none is valid.
 use Rattle.std.proofs.Common.{◌∙◌, sym, subst, arith, true≢false}
 use Rattle.revision_machine.specs.Numbered.{paths_of}
 use Rattle.rev_vm.specs.Starts.{run_under}

@@ -1,4 +1,4 @@
--- What proves `repeat_leg`.
+-- Answers of repeat_leg: an end that is taken over is the leg's, and is counted once; without one the leg is made.
 use Rattle.std.proofs.Common.{◌+◌, sym, subst, refl, arith}
 use Rattle.code_machine_laws.specs.Reached.{IsReached}
 use Rattle.code_world.specs.Answers.{LegAnswers}

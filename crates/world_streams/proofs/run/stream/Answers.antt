@@ -1,4 +1,4 @@
--- What proves `stream`.
+-- Answers of stream: the sink has gained nothing at the start, and behind each leg what the text of `main` has gained.
 use Rattle.std.proofs.Common.{ap, rules}
 use Rattle.rev_vm.specs.Starts.{run_under}
 use Rattle.world_streams.proofs.Legs.{ends, since_none, stops}

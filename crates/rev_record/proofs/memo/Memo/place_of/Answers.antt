@@ -1,4 +1,4 @@
--- What proves `Memo::place_of`.
+-- Answers of Memo::place_of: what is looked up for a path is its place, since the table of a memo has each entry's.
 use Rattle.std.proofs.Common.{sym, subst}
 use Rattle.revision_machine.specs.PathIndex.{IsPlace}
 use Rattle.rev_record.specs.Entries.{paths}

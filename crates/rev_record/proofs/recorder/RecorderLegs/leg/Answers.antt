@@ -1,4 +1,4 @@
--- What proves the legs of a `Recorder`.
+-- Answers of Recorder::leg: the leg of a revision that is not fresh adds no entry, and a fresh one's is recorded.
 use Rattle.rev_vm.specs.Starts.{run_under}
 use Rattle.rev_record.proofs.Recorded.{recorded_old}
 use Rattle.rev_record.proofs.recorder.RecorderLegs.leg.Goals as goal

@@ -1,4 +1,4 @@
--- What proves the legs of a `Repeater`.
+-- Answers of Repeater::leg: the leg of a revision that is not fresh counts nothing, and a fresh one's is repeated.
 use Rattle.rev_vm.specs.Starts.{run_under}
 use Rattle.rev_record.proofs.Repeated.{repeated_old}
 use Rattle.rev_record.proofs.repeater.RepeaterLegs.leg.Goals as goal

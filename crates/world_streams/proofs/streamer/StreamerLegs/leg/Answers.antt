@@ -1,4 +1,4 @@
--- What proves the legs of a `Streamer`.
+-- Answers of Streamer::leg: what the sink takes of a leg goes behind what it took before, also where it fails.
 use Rattle.std.proofs.Common.{refl}
 use Rattle.rev_vm.specs.Starts.{run_under}
 use Rattle.world_runs.proofs.Keeping.{handed}
