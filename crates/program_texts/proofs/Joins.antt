@@ -19,7 +19,7 @@ use Rattle.trace_diagram.specs.Lines.{FitsValue}
 use Rattle.program_texts.specs.Written.{IsWritten}
 use Rattle.program_texts.proofs.WrittenTexts.{more_lines}
 use Rattle.program_texts.proofs.WrittenValues.{FitsIfAny, number_fits, merge_fits}
-use Rattle.program_texts.proofs.States.{LocationFits, LocationsFit, PhaseFits, StateFits, give_fits, noted_more, view_fits}
+use Rattle.program_texts.proofs.States.{LocationFits, LocationsFit, PhaseFits, StateFits, give_fits, noted_more, view_fits, with_phase}
 
 -- ---- merges
 
@@ -100,15 +100,7 @@ module _ (s : Setting) (written : IsWritten s.program) (r q : Path) (l j : Local
   absorb_fits : (left : Option Name) (c : Composition) → CompositionFits s.program written c
       → StateFits r (absorb s r (note q l) left j c)
   absorb_fits left (faults n f) fit =
-      let m = noted_fits in record {
-        path = m.path;
-        locations = m.locations;
-        frames = m.frames;
-        noted = m.noted;
-        text = m.text;
-        line = m.line;
-        phase = (m.line, m.path);
-      }
+      let m = noted_fits in with_phase m _ (m.line, m.path)
   absorb_fits left (merged locations) fit =
       let m = noted_fits in
       give_fits s r
@@ -126,27 +118,10 @@ module _ (s : Setting) (written : IsWritten s.program) (r q : Path) (l j : Local
 
   inherit_fits : (left : Option Name) (p : Phase) → PhaseFits p → StateFits r (inherit s (note q l) left p)
   inherit_fits None p fit =
-      let m = noted_fits in record {
-        path = m.path;
-        locations = m.locations;
-        frames = m.frames;
-        noted = m.noted;
-        text = m.text;
-        line = m.line;
-        phase = fit;
-      }
+      with_phase noted_fits p fit
   inherit_fits (Some name) p fit =
-      let m = noted_fits in
       give_fits s r (record (note q l) { phase = running }) (Some name) (Some (v.Bool false))
-      (record {
-        path = m.path;
-        locations = m.locations;
-        frames = m.frames;
-        noted = m.noted;
-        text = m.text;
-        line = m.line;
-        phase = tt;
-      }) tt
+      (with_phase noted_fits running tt) tt
 
   pub join_fits : StateFits r (join s r l q j)
   join_fits = by j.phase k.phase

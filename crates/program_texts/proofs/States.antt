@@ -137,6 +137,42 @@ pub record StateFits (r : Path) (l : Local) : Type 0 where
   pub line : l.line < 2 ^ 32
   pub phase : PhaseFits l.phase
 
+-- one that fits, with other locations, other frames or another phase
+
+module _ {r : Path} {l : Local} (h : StateFits r l) where
+  pub with_locations : (ls : List Location) → LocationsFit ls → StateFits r (record l { locations = ls })
+  with_locations ls fit = record {
+    path = h.path;
+    locations = fit;
+    frames = h.frames;
+    noted = h.noted;
+    text = h.text;
+    line = h.line;
+    phase = h.phase;
+  }
+
+  pub with_frames : (fs : List Frame) → FramesFit fs → StateFits r (record l { frames = fs })
+  with_frames fs fit = record {
+    path = h.path;
+    locations = h.locations;
+    frames = fit;
+    noted = h.noted;
+    text = h.text;
+    line = h.line;
+    phase = h.phase;
+  }
+
+  pub with_phase : (p : Phase) → PhaseFits p → StateFits r (record l { phase = p })
+  with_phase p fit = record {
+    path = h.path;
+    locations = h.locations;
+    frames = h.frames;
+    noted = h.noted;
+    text = h.text;
+    line = h.line;
+    phase = fit;
+  }
+
 -- ---- evaluation
 
 module _ (s : Setting) (written : IsWritten s.program) (inputs : AreInputs s.inputs) (r : Path) (l : Local)
@@ -175,24 +211,8 @@ pub set_fits : (s : Setting) (r : Path) (l : Local) (name : Name) (x : Value) �
 set_fits s r l name x h k = by (variable_named (variables s.program) name)
   where
     by : (o : Option SharedVariable) → StateFits r (set_named o l name x)
-    by (Some y) = record {
-      path = h.path;
-      locations = write_fits l.locations y.info.base x h.locations k;
-      frames = h.frames;
-      noted = h.noted;
-      text = h.text;
-      line = h.line;
-      phase = h.phase;
-    }
-    by None = record {
-      path = h.path;
-      locations = h.locations;
-      frames = set_top_fits l.frames name x h.frames k;
-      noted = h.noted;
-      text = h.text;
-      line = h.line;
-      phase = h.phase;
-    }
+    by (Some y) = with_locations h _ (write_fits l.locations y.info.base x h.locations k)
+    by None = with_frames h _ (set_top_fits l.frames name x h.frames k)
 
 pub give_fits : (s : Setting) (r : Path) (l : Local) (left : Option Name) (x : Option Value) → StateFits r l
     → FitsIfAny x → StateFits r (give s l left x)

@@ -25,7 +25,7 @@ use Rattle.trace_diagram.proofs.Forks.{fits_more}
 use Rattle.program_texts.specs.Written.{ExpressionWritten, ExpressionsWritten, RightSideWritten, ItemWritten, StatementWritten, StatementsWritten, ArmsWritten, DeclarationWritten, IsWritten}
 use Rattle.program_texts.proofs.WrittenTexts.{IsPrinted, items_printed, more_lines, no_lines, one_line, text_printed, value_printed}
 use Rattle.program_texts.proofs.WrittenValues.{FitsIfAny, FitsEach}
-use Rattle.program_texts.proofs.States.{FrameFits, FramesFit, StateFits, entered_fits, eval_fits, evals_fit, frame_fits, fresh_fits, give_fits, noted_more, set_fits, views_fit, write_fits}
+use Rattle.program_texts.proofs.States.{FrameFits, FramesFit, StateFits, entered_fits, eval_fits, evals_fit, frame_fits, fresh_fits, give_fits, noted_more, set_fits, views_fit, with_frames, with_locations, with_phase, write_fits}
 
 -- ---- procedures
 
@@ -69,30 +69,14 @@ module _ (s : Setting) (written : IsWritten s.program) (inputs : AreInputs s.inp
       named_written (procedures s.program) name (procedures_written 0 s.program.declarations written.declarations)
 
   finish_fits : (l : Local) → StateFits r l → StateFits r (finish l)
-  finish_fits l h = record {
-    path = h.path;
-    locations = h.locations;
-    frames = tt;
-    noted = h.noted;
-    text = h.text;
-    line = h.line;
-    phase = tt;
-  }
+  finish_fits l h = with_phase (with_frames h [] tt) done tt
 
   ended_fits : (l : Local) (fs : List Frame) (x : Option Value) → StateFits r l → FramesFit fs → FitsIfAny x
       → StateFits r (end_frame s l fs x)
   ended_fits l [] x h k fit = finish_fits l h
   ended_fits l (f ∷ []) x h k fit = finish_fits l h
   ended_fits l (f ∷ g ∷ fs) x h k fit =
-      give_fits s r (record l { frames = g ∷ fs }) f.left x (record {
-        path = h.path;
-        locations = h.locations;
-        frames = k.1;
-        noted = h.noted;
-        text = h.text;
-        line = h.line;
-        phase = h.phase;
-      }) fit
+      give_fits s r (record l { frames = g ∷ fs }) f.left x (with_frames h (g ∷ fs) k.1) fit
 
   -- a state that pays for a statement, whose forks are few
   module _ (l : Local) (h : StateFits r l) (few : l.forks < 2 ^ 32) where
@@ -100,15 +84,7 @@ module _ (s : Setting) (written : IsWritten s.program) (inputs : AreInputs s.inp
     Ok_here e = EventFits r l.forks e
 
     traps_fit : (c : Cause) → Ok_here (traps r l c)
-    traps_fit c = record {
-      path = h.path;
-      locations = h.locations;
-      frames = h.frames;
-      noted = h.noted;
-      text = h.text;
-      line = h.line;
-      phase = (h.line, h.path);
-    }
+    traps_fit c = with_phase h _ (h.line, h.path)
 
     answer_fits : {A : Type 0} (P : A → Type 0) (a : Result A Cause) (go : A → Event Local) → OfOk P a
         → ((x : A) → P x → Ok_here (go x)) → Ok_here (with_answer r l a go)
@@ -132,15 +108,7 @@ module _ (s : Setting) (written : IsWritten s.program) (inputs : AreInputs s.inp
     of_values es go w k = answer_fits FitsEach (evals s l es) go (evals_fit s written inputs r l h es w) k
 
     enter_fits : (block : Statements) → StatementsWritten block → StateFits r (enter block l)
-    enter_fits block w = record {
-      path = h.path;
-      locations = h.locations;
-      frames = entered_fits block l.frames w h.frames;
-      noted = h.noted;
-      text = h.text;
-      line = h.line;
-      phase = h.phase;
-    }
+    enter_fits block w = with_frames h _ (entered_fits block l.frames w h.frames)
 
     calls_fit : (left : Option Name) (name : Name) (args : List Value) → FitsEach args
         → Ok_here (calls s r l left name args)
@@ -148,15 +116,8 @@ module _ (s : Setting) (written : IsWritten s.program) (inputs : AreInputs s.inp
         cond_event (nat_le most_frames (length l.frames)) (traps r l cause.CallDepth)
         (Moves (record l { frames = frame_of (procedure_named (procedures s.program) name) args left ∷ l.frames }))
         (traps_fit cause.CallDepth)
-        (record {
-          path = h.path;
-          locations = h.locations;
-          frames = (frame_fits (procedure_named (procedures s.program) name) args left (proc_written name) k, h.frames);
-          noted = h.noted;
-          text = h.text;
-          line = h.line;
-          phase = h.phase;
-        })
+        (with_frames h _
+        (frame_fits (procedure_named (procedures s.program) name) args left (proc_written name) k, h.frames))
 
     child_path : FitsPath (child r l.forks)
     child_path = fits_more r l.forks h.path few
@@ -186,15 +147,7 @@ module _ (s : Setting) (written : IsWritten s.program) (inputs : AreInputs s.inp
     )
 
     joins_fit : (left : Option Name) (x : Value) → FitsValue x → Ok_here (joins r l left x)
-    joins_fit left (v.Rev (Some q)) k = record {
-      path = h.path;
-      locations = h.locations;
-      frames = h.frames;
-      noted = h.noted;
-      text = h.text;
-      line = h.line;
-      phase = k;
-    }
+    joins_fit left (v.Rev (Some q)) k = with_phase h (joining q left) k
     joins_fit left (v.Rev None) k = traps_fit cause.JoinNone
     joins_fit left (v.Int z) k = traps_fit cause.JoinNone
     joins_fit left (v.Bool true) k = traps_fit cause.JoinNone
@@ -242,15 +195,7 @@ module _ (s : Setting) (written : IsWritten s.program) (inputs : AreInputs s.inp
         answer_fits Any (and_then (eval s l index) (λ i. cell_location s a.text (number_of i)))
         (λ n. with_answer r l (eval s l e) (λ x. Moves (record l { locations = write_at l.locations n x }))) (any_ok _)
         (λ n any. of_value e (λ x. Moves (record l { locations = write_at l.locations n x })) w.1.1
-        (λ x k. record {
-          path = h.path;
-          locations = write_fits l.locations n x h.locations k;
-          frames = h.frames;
-          noted = h.noted;
-          text = h.text;
-          line = h.line;
-          phase = h.phase;
-        }))
+        (λ x k. with_locations h _ (write_fits l.locations n x h.locations k)))
     does_fits (statement at line (choose arms)) w =
         answer_fits StatementsWritten (select s l arms no_statements) (λ block. Moves (enter block l))
         (select_written arms no_statements w.1 tt) enter_fits
@@ -269,15 +214,7 @@ module _ (s : Setting) (written : IsWritten s.program) (inputs : AreInputs s.inp
         once = enter_fits (statements (statement at line (repeat test block)) no_statements) (w, tt)
 
         again : StateFits r (enter block (enter (statements (statement at line (repeat test block)) no_statements) l))
-        again = record {
-          path = h.path;
-          locations = h.locations;
-          frames = entered_fits block _ w.1.1 once.frames;
-          noted = h.noted;
-          text = h.text;
-          line = h.line;
-          phase = h.phase;
-        }
+        again = with_frames once _ (entered_fits block _ w.1.1 once.frames)
     does_fits (statement at line (call p args)) w = of_values args (calls s r l None p.text) w.1 (calls_fit None p.text)
     does_fits (statement at line (return None)) w = ended_fits l l.frames None h h.frames tt
     does_fits (statement at line (return (Some e))) w =
