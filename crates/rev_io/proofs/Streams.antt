@@ -1,4 +1,4 @@
--- One call after another.
+-- One call of a stream after another: what both together take, give and leave.
 use Rattle.std.proofs.Common.{◌≡◌, ◌∙◌, ap, sym, refl, List, [], ℕ, ◌++◌, append_assoc, arith, take, drop, length, length-drop, ◌+◌, ◌-◌, ◌≤◌, ◌<◌}
 use Rattle.std.proofs.Math.Seq.{take-add}
 use Rattle.std.proofs.lemmas.Grind.{common_steps}

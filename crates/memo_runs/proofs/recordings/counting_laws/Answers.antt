@@ -1,4 +1,4 @@
--- What proves `counting_laws`.
+-- Answers of counting_laws: four lemmas, on the start, on legs without and with one valid entry more, and on the end.
 use Rattle.memo_runs.proofs.Keeping.{counted_at_start, counted_without, counted_with, counted_at_end}
 use Rattle.memo_runs.proofs.recordings.counting_laws.Goals as goal
 

@@ -1,4 +1,4 @@
--- What proves `recording_laws`.
+-- Answers of recording_laws: four lemmas, on the start, on legs without and with one entry more, and on the end.
 use Rattle.memo_runs.proofs.Keeping.{recorded_at_start, recorded_without, recorded_with, recorded_at_end}
 use Rattle.memo_runs.proofs.recordings.recording_laws.Goals as goal
 

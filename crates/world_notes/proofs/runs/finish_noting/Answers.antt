@@ -1,4 +1,4 @@
--- What proves `finish_noting`.
+-- Answers of finish_noting: a run to the end by legs that keep the notes has the notes of its last world.
 use Rattle.std.proofs.Common.{rules}
 use Rattle.rev_vm.specs.Starts.{run_under}
 use Rattle.world_notes.proofs.NotesOfLegs.{finished_noting, first_in}

@@ -1,4 +1,4 @@
--- What proves `replay_noting`.
+-- Answers of replay_noting: the first notes are those of the start, and a replay by legs that keep them has them still.
 use Rattle.std.proofs.Common.{rules}
 use Rattle.rev_vm.specs.Starts.{run_under}
 use Rattle.world_runs.specs.Replay.{IsIllegal}

@@ -1,4 +1,4 @@
--- What proves `finish_by`.
+-- Answers of finish_by: all numbers are ready at first, and each turn makes the leg of the least, until none has one.
 use Rattle.std.proofs.Common.{◌∙◌, refl, arith}
 use Rattle.code_world.specs.LegOutcomes.{run_under}
 use Rattle.world_runs.proofs.Keeping.{came_first, came_on, came_to_end, handed}

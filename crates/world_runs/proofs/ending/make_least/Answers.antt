@@ -1,4 +1,4 @@
--- What proves `make_least`.
+-- Answers of make_least: a number that is taken out with no leg is known to have none, so the first with one is least.
 use Rattle.std.proofs.Common.{◌≡◌, ◌∙◌, ◌<◌, ◌^◌, ℕ, ap, arith, rules}
 use Rattle.std.specs.BinaryHeap.{heap_len}
 use Rattle.code_world.specs.LegOutcomes.{run_under}

@@ -1,4 +1,4 @@
--- What proves `try_leg`.
+-- Answers of try_leg: a leg leads to the world of the definition, or its want is noted; in Twice there is none.
 use Rattle.std.proofs.Common.{subst}
 use Rattle.code_world.specs.LegOutcomes.{run_under}
 use Rattle.code_world.specs.Tables.{IsWorld}

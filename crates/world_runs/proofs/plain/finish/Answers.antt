@@ -1,4 +1,4 @@
--- What proves `finish`.
+-- Answers of finish: finish_by with legs that keep nothing.
 use Rattle.world_runs.proofs.plain.finish.Goals as goal
 
 pub finish_by-requires-clause-reached : goal.finish_by-requires-clause-reached

@@ -1,4 +1,4 @@
--- What proves `replay`.
+-- Answers of replay: replay_by with legs that keep nothing.
 use Rattle.code_world.specs.LegOutcomes.{run_under}
 use Rattle.world_runs.specs.Replay.{IsIllegal}
 use Rattle.world_runs.proofs.Keeping.{handed}

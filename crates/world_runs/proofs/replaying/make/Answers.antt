@@ -1,4 +1,4 @@
--- What proves `make`.
+-- Answers of make: a leg leads to the world of the definition, or there is a reason why there is none.
 use Rattle.std.proofs.Common.{subst}
 use Rattle.code_world.specs.LegOutcomes.{run_under}
 use Rattle.code_world.specs.Tables.{IsWorld}

@@ -1,4 +1,4 @@
--- What proves `replay_by`.
+-- Answers of replay_by: each entry that has a leg extends the schedule, and the first that has none makes it illegal.
 use Rattle.std.proofs.Common.{◌∙◌, [], refl, arith}
 use Rattle.std.proofs.lemmas.Option.{slice_get-get_or}
 use Rattle.code_world.specs.LegOutcomes.{run_under}

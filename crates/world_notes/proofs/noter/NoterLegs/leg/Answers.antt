@@ -1,4 +1,4 @@
--- What proves the legs of a `Noter`.
+-- Answers of Noter::leg: the notes before a leg, with what the leg lists and leaves, are those after it.
 use Rattle.rev_vm.specs.Starts.{run_under}
 use Rattle.world_runs.proofs.Keeping.{keeps_so}
 use Rattle.world_notes.specs.Notes.{NotesOf}

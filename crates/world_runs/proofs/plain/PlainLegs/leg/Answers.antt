@@ -1,4 +1,4 @@
--- What proves the legs of `Plain`.
+-- Answers of Plain::leg: a leg with nothing beside it keeps nothing more.
 use Rattle.code_world.specs.LegOutcomes.{run_under}
 use Rattle.world_runs.proofs.Keeping.{kept_nothing}
 use Rattle.world_runs.proofs.plain.PlainLegs.leg.Goals as goal
