@@ -1,5 +1,4 @@
 -- Proofs of program_texts: the text of `load` is a program, and no program has a line that begins a trace.
-pub mod WholeGrammar
 pub mod Chunks
 pub mod Cuts
 pub mod Lines

@@ -22,7 +22,7 @@ use Rattle.program_texts.proofs.Parsing.{Rows, read_all}
 use Rattle.program_texts.proofs.LoadChunks.{Line, add_remainder, add_constant, set_product, statement_chunk, statement_chunks, sum_line, most_line, a_line, b_line, v_line, work_line, let_line, while_line, step_line, end_line, main_line, go_lines, start_line, a_low, a_high, b_low, b_high, v_low, v_high, first_chunks, last_chunks}
 use Rattle.program_texts.proofs.LoadTrees.{sum_tree, most_tree, array_tree, let_tree, while_test, step_tree, go_tree, start_tree, print_tree, statement_tree, lines_at, statement_trees, after, as_spelled, read_sum, read_most, read_a, read_b, read_v, read_let, read_step, read_go, read_start, read_statement, read_a_low, read_a_high, read_b_low, read_b_high, read_v_low, read_v_high}
 use Rattle.program_texts.proofs.LoadRules.{Places, work_tree, main_tree, inside_tree, program_tree}
-use Rattle.program_texts.proofs.WholeGrammar.{whole_grammar}
+use Rattle.rev_expressions.proofs.WholeGrammar.{whole_grammar}
 
 abbrev is_some : List Token → Bool
 is_some [] = false

@@ -18,7 +18,7 @@ use Rattle.rev_expressions.specs.Declarations.{declaration}
 use Rattle.rev_expressions.specs.Parse.{parse}
 use Rattle.program_texts.proofs.Chunks.{Chunk, place, seen, named, HasPieces, as_named}
 use Rattle.program_texts.proofs.LoadChunks.{Line, add_remainder, add_constant, set_product, statement_chunk, sum_line, most_line, a_line, b_line, v_line, let_line, step_line, go_lines, start_line, a_low, a_high, b_low, b_high, v_low, v_high}
-use Rattle.program_texts.proofs.WholeGrammar.{whole_grammar}
+use Rattle.rev_expressions.proofs.WholeGrammar.{whole_grammar}
 
 -- ---- trees
 

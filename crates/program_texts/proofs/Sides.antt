@@ -14,7 +14,7 @@ use Rattle.rev_expressions.specs.Classes as class
 use Rattle.rev_expressions.specs.Grammar.{alphabet, Rule, Inner, Value, Operand, Parens, Index, Arguments, Parts, Body, Params, Names, Cells}
 use Rattle.rev_expressions.specs.Declarations.{program, inner}
 use Rattle.rev_parse.specs.Verdicts.{IsProgram}
-use Rattle.program_texts.proofs.WholeGrammar.{whole_grammar}
+use Rattle.rev_expressions.proofs.WholeGrammar.{whole_grammar}
 
 -- ---- tokens
 

@@ -1,4 +1,5 @@
 -- Proofs of rev_expressions: the grammar of the language, and the parser of expressions.
+pub mod WholeGrammar
 pub mod Turns
 pub mod Lists
 pub mod Chains

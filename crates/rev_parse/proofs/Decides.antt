@@ -3,19 +3,15 @@ use Rattle.std.proofs.Common.{◌≡◌, ◌||◌, not, Bool, true, false, List,
 use Rattle.std.specs.List.{list_all}
 use Rattle.rev_expressions.specs.Exact.{extends, is_decided, is_plain, Decided}
 use Rattle.rev_expressions.specs.Classes.{classes}
-use Rattle.rev_expressions.specs.Grammar.{alphabet, Inner, Operand, Parens, Index, Arguments, Parts, Body, Params, Names, Cells, rank_sign, bracketed, choice, name, name_tail, primary, unary, product, sum, comparison, conjunction, expr, parens, index, arguments, parts}
-use Rattle.rev_expressions.specs.Statements.{block, actual, application, right_side, item, assigned, assignment, arm, else_part, else_parts, let_form, if_form, while_form, call_form, return_form, fork_form, join_form, print_form, assert_form, statement, statements, body}
-use Rattle.rev_expressions.specs.Declarations.{kind, constant, cells, size, first_value, param, params, names, formal, head, meaning, fun_form, merge_form, variable, versioned_form, cumulative_form, proc_form, declaration, declarations, program, inner}
+use Rattle.rev_expressions.specs.Grammar.{alphabet, Inner, Operand, Parens, Index, Arguments, Parts, Body, Params, Names, Cells}
+use Rattle.rev_expressions.specs.Declarations.{program, inner}
+use Rattle.rev_expressions.proofs.WholeGrammar.{whole_grammar}
 use Rattle.rev_parse.specs.Instance.{going_on, Choices, decided}
 use Rattle.rev_parse.proofs.Complete.{complete}
 
 module _ (bytes : List ℕ) where
   rules_decided : (i : Inner) → is_decided alphabet going_on classes (inner bytes i) ≡ true
-  unfolding rank_sign bracketed choice name name_tail primary unary product sum comparison conjunction expr parens index
-      arguments parts block actual application right_side item assigned assignment arm else_part else_parts let_form
-      if_form while_form call_form return_form fork_form join_form print_form assert_form statement statements body kind
-      constant cells size first_value param params names formal head meaning fun_form merge_form variable versioned_form
-      cumulative_form proc_form declaration declarations program inner
+  unfolding whole_grammar
   rules_decided Operand = refl
   rules_decided Parens = refl
   rules_decided Index = refl
@@ -27,11 +23,7 @@ module _ (bytes : List ℕ) where
   rules_decided Cells = refl
 
   rules_plain : (i : Inner) → is_plain alphabet going_on (inner bytes i) ≡ true
-  unfolding rank_sign bracketed choice name name_tail primary unary product sum comparison conjunction expr parens index
-      arguments parts block actual application right_side item assigned assignment arm else_part else_parts let_form
-      if_form while_form call_form return_form fork_form join_form print_form assert_form statement statements body kind
-      constant cells size first_value param params names formal head meaning fun_form merge_form variable versioned_form
-      cumulative_form proc_form declaration declarations program inner
+  unfolding whole_grammar
   rules_plain Operand = refl
   rules_plain Parens = refl
   rules_plain Index = refl
@@ -45,11 +37,7 @@ module _ (bytes : List ℕ) where
   -- an inner rule goes on with no other kinds
   extends_only : (i : Inner)
       → list_all (λ k. not (extends alphabet going_on (inner bytes i) k) || going_on i k) classes ≡ true
-  unfolding rank_sign bracketed choice name name_tail primary unary product sum comparison conjunction expr parens index
-      arguments parts block actual application right_side item assigned assignment arm else_part else_parts let_form
-      if_form while_form call_form return_form fork_form join_form print_form assert_form statement statements body kind
-      constant cells size first_value param params names formal head meaning fun_form merge_form variable versioned_form
-      cumulative_form proc_form declaration declarations program inner
+  unfolding whole_grammar
   extends_only Operand = refl
   extends_only Parens = refl
   extends_only Index = refl
@@ -65,11 +53,7 @@ module _ (bytes : List ℕ) where
   implied false b e h = absurd cc
 
   pub program_decided : is_decided alphabet going_on classes (program bytes) ≡ true
-  unfolding rank_sign bracketed choice name name_tail primary unary product sum comparison conjunction expr parens index
-      arguments parts block actual application right_side item assigned assignment arm else_part else_parts let_form
-      if_form while_form call_form return_form fork_form join_form print_form assert_form statement statements body kind
-      constant cells size first_value param params names formal head meaning fun_form merge_form variable versioned_form
-      cumulative_form proc_form declaration declarations program inner
+  unfolding whole_grammar
   program_decided = refl
 
   pub choices : Choices bytes
