@@ -1,5 +1,4 @@
 -- Rows of 64 written locations.
---   climbs       in ascending order, a location that stands n places later is n higher, or more
 --   row_between  64 places whose last location is the first and 63 more are a row
 --   row_place, row_fits   where a row's locations are, and that there are so many
 --   map_part     the first words, and a part behind them
@@ -15,6 +14,7 @@ use Rattle.std.proofs.lemmas.Option.{slice_get-get_or}
 use Rattle.version_map.specs.declared.end.Written.{Written}
 use Rattle.version_map.specs.declared.delta.Delta.{Delta}
 use Rattle.version_map.specs.Ascending.{IsAscending}
+use Rattle.version_map.proofs.Following.{location_at, climbs}
 use Rattle.version_map.specs.Deltas.{at, mask_of}
 use Rattle.version_map.specs.Masks.{bit_in, chosen}
 use Rattle.version_map.specs.Overlay.{Agree, under, word_or}
@@ -24,20 +24,6 @@ use Rattle.rev_vm.specs.Rows.{IsRow, WroteRow}
 use Rattle.rev_vm.proofs.Writing.{IsOn, goes_on, no_entry}
 
 -- ---- which row stands there
-
-abbrev pub location_at : List Written → ℕ → ℕ
-location_at ws i = (get_or ws i no_entry).location
-
-climbs : (ws : List Written) → IsAscending ws → (i n : ℕ) → i + n < length ws
-    → location_at ws i + n ≤ location_at ws (i + n)
-climbs ws ascend i zero lt = let z : i + 0 ≡ i = omega arith in
-    let e = ap (location_at ws) z in omega (arith, e)
-climbs ws ascend i (suc n) lt =
-    let before = climbs ws ascend i n (omega (arith, lt)) in
-    let step =
-    ascend (i + n) (i + suc n) (get_or ws (i + n) no_entry) (get_or ws (i + suc n) no_entry) (omega arith)
-    (slice_get-get_or ws (i + n) no_entry (omega (arith, lt))) (slice_get-get_or ws (i + suc n) no_entry lt) in
-    omega (arith, before, step)
 
 some_eq : {x y : Written} → Some x ≡ Some y → x ≡ y
 some_eq e = cc

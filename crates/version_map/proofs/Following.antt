@@ -15,7 +15,7 @@ no_entry = record { location = 0; value = 0; root = 0 }
 abbrev pub location_at : List Written → ℕ → ℕ
 location_at ws i = (get_or ws i no_entry).location
 
-climbs : (ws : List Written) → IsAscending ws → (i n : ℕ) → i + n < length ws
+pub climbs : (ws : List Written) → IsAscending ws → (i n : ℕ) → i + n < length ws
     → location_at ws i + n ≤ location_at ws (i + n)
 climbs ws ascend i zero lt = let z : i + 0 ≡ i = omega arith in
     let e = ap (location_at ws) z in omega (arith, e)

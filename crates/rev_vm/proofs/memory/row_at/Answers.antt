@@ -1,6 +1,7 @@
 -- Answers of row_at: in ascending order, 64 places whose last location is the first and 63 more are a row.
 use Rattle.std.proofs.Common.{arith, ◌/◌}
-use Rattle.rev_vm.proofs.Rows.{row_between, location_at}
+use Rattle.version_map.proofs.Following.{location_at}
+use Rattle.rev_vm.proofs.Rows.{row_between}
 use Rattle.rev_vm.proofs.memory.row_at.Goals as goal
 
 pub returns-clause-row : goal.returns-clause-row
