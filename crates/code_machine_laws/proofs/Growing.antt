@@ -19,7 +19,7 @@ use Rattle.code_machine.specs.Worlds.{Joins}
 use Rattle.code_machine.proofs.Changes.{LegOf, went, bore, took, twice, leg_ways, legs_change}
 use Rattle.code_machine.proofs.Typing.{goes_act, bears_act, wants_act}
 use Rattle.code_machine_laws.specs.Reached.{IsReached}
-use Rattle.code_machine_laws.proofs.Reaching.{joinees}
+use Rattle.code_machine_laws.proofs.Reaching.{joinees, forked_goes}
 use Rattle.code_machine_laws.specs.Forms.{Grows, Says}
 use Rattle.code_machine_laws.proofs.StepTexts.{grows_on, grows_same, reach_says}
 use Rattle.code_machine_laws.specs.Texts.{HasSaid, as_it_is, at_join, LegsSay}
@@ -37,15 +37,6 @@ module _ (g : CodeRun) (t : List ℕ) where
   ended_says : (d : State ℕ) (p : Phase ℕ) (l' : Local ℕ) → Grows t d.text → Goes (has_ended d p) ≡ Goes l'
       → Grows t l'.state.text
   ended_says d p l' k e = let z : has_ended d p ≡ l' = cc in subst (λ (x : Local ℕ). Grows t x.state.text) z k
-
-  forked_goes : (d : State ℕ) (n : ℕ) (args : List (Word ℕ)) (o : Option CodeBlock) (l' : Local ℕ)
-      → fork g d n args o ≡ Goes l' → ⊥
-  forked_goes d n args None l' is = (let z : Stops ≡ Goes l' = is in cc)
-  forked_goes d n args (Some b) l' is =
-      (let z :
-      Bears (λ h. at_work (events.parent g.share d args h)) (at_work (events.child g.share d n b args)) ≡ Goes l' =
-      is in
-      cc)
 
   forked_says : (d : State ℕ) (n : ℕ) (args : List (Word ℕ)) (o : Option CodeBlock) → Grows t d.text
       → (f : ℕ → Local ℕ) (k : Local ℕ) → fork g d n args o ≡ Bears f k → (m : ℕ) → Grows t (f m).state.text
@@ -70,7 +61,7 @@ module _ (g : CodeRun) (t : List ℕ) where
   event_goes : (o : Comes ℕ) → Says t o → (l' : Local ℕ) → act_of g o ≡ Goes l' → Grows t l'.state.text
   event_goes (traps d x) k l' e = ended_says d (trapped (record { cause = x; line = d.line; origin = None })) l' k e
   event_goes (ends d v) k l' e = ended_says d done l' k e
-  event_goes (forks d n args) k l' e = absurd (forked_goes d n args _ l' e)
+  event_goes (forks d n args) k l' e = absurd (forked_goes g d n args _ l' e)
   event_goes (joins d try m) k l' e = absurd (let z : Wants m ≡ Goes l' = e in cc)
   event_goes (goes d) k l' e = absurd (let z : Stops ≡ Goes l' = e in cc)
   event_goes stuck k l' e = absurd (let z : Stops ≡ Goes l' = e in cc)

@@ -161,6 +161,17 @@ joinees g ok w h n r l there m is = joinee_stands g ok w h n r l there m is
 
 -- ---- `main`
 
+-- a fork is no step that goes on alone
+module _ (g : CodeRun) where
+  pub forked_goes : (d : State ℕ) (n : ℕ) (args : List (Word ℕ)) (o : Option CodeBlock) (l' : Local ℕ)
+      → fork g d n args o ≡ Goes l' → ⊥
+  forked_goes d n args None l' is = (let z : Stops ≡ Goes l' = is in cc)
+  forked_goes d n args (Some b) l' is =
+      (let z :
+      Bears (λ h. at_work (events.parent g.share d args h)) (at_work (events.child g.share d n b args)) ≡ Goes l' =
+      is in
+      cc)
+
 module _ (g : CodeRun) (ok : IsVerified g) where
   abbrev Kept : Local ℕ → Local ℕ → Type 0
   Kept l l' = snapshots l'.state.locations ≡ snapshots l.state.locations
@@ -178,15 +189,6 @@ module _ (g : CodeRun) (ok : IsVerified g) where
       cc) in
       ap (λ u. snapshots (u m).state.locations) (sym z) ∙ e
 
-  forked_goes : (d : State ℕ) (n : ℕ) (args : List (Word ℕ)) (o : Option CodeBlock) (l' : Local ℕ)
-      → fork g d n args o ≡ Goes l' → ⊥
-  forked_goes d n args None l' is = (let z : Stops ≡ Goes l' = is in cc)
-  forked_goes d n args (Some b) l' is =
-      (let z :
-      Bears (λ h. at_work (events.parent g.share d args h)) (at_work (events.child g.share d n b args)) ≡ Goes l' =
-      is in
-      cc)
-
   ended_keeps : (c d : State ℕ) (p : Phase ℕ) (l' : Local ℕ) → snapshots d.locations ≡ snapshots c.locations
       → Goes (has_ended d p) ≡ Goes l' → snapshots l'.state.locations ≡ snapshots c.locations
   ended_keeps c d p l' k e = let z : has_ended d p ≡ l' = cc in ap (λ x. snapshots x.state.locations) (sym z) ∙ k
@@ -196,7 +198,7 @@ module _ (g : CodeRun) (ok : IsVerified g) where
   event_goes c (traps d x) k l' e =
       ended_keeps c d (trapped (record { cause = x; line = d.line; origin = None })) l' k.0 e
   event_goes c (ends d v) k l' e = ended_keeps c d done l' k.0 e
-  event_goes c (forks d n args) k l' e = absurd (forked_goes d n args _ l' e)
+  event_goes c (forks d n args) k l' e = absurd (forked_goes g d n args _ l' e)
   event_goes c (joins d try m) k l' e = absurd (let z : Wants m ≡ Goes l' = e in cc)
   event_goes c (goes d) k l' e = absurd (let z : Stops ≡ Goes l' = e in cc)
   event_goes c stuck k l' e = absurd (let z : Stops ≡ Goes l' = e in cc)
