@@ -8,7 +8,7 @@ use Rattle.revision_machine.specs.Machine.{Entry, Global, Twice, Live}
 use Rattle.revision_machine.specs.Laws.{local_of, Census, HasAtMost, IsIn, IsDistinct}
 use Rattle.revision_machine.proofs.Census.{count_law}
 use Rattle.revision_machine.proofs.Paths.{apart-same, decide_in}
-use Rattle.rev_num.proofs.PostOrder.{same_refl}
+use Rattle.rev_num.proofs.PostOrder.{same_refl, before_irrefl}
 use Rattle.rev_num.proofs.PostOrder.{before_trans}
 use Rattle.rev_num.proofs.PostOrder.{before_total}
 use Rattle.revision_calculus.specs.Program.{Setting}
@@ -20,6 +20,16 @@ use Rattle.audit_rules.specs.Parts.{part_of}
 use Rattle.audit_rules.specs.Traces.{part_at, InPostOrder, IsPartOf, IsTrace, EndHasTrace}
 
 -- ---- parts in post-order
+
+-- each is found at its path
+pub at_own : (ps : List Part) → InPostOrder ps → (p : Part) → Among ps p → part_at ps p.path ≡ Some p
+at_own [] order p i = absurd i
+at_own (q ∷ ps) order p (inl e) =
+    subst (λ v. part_at (q ∷ ps) v.path ≡ Some v) e (ap (λ b. cond b (Some q) (part_at ps q.path)) (same_refl q.path))
+at_own (q ∷ ps) order p (inr i) =
+    let apart : q.path ≢ p.path =
+    λ e. before_irrefl q.path (subst (λ v. before q.path v ≡ true) (sym e) (order.0 p i)) in
+    ap (λ b. cond b (Some q) (part_at ps p.path)) (apart-same q.path p.path apart) ∙ at_own ps order.1 p i
 
 -- a part at its place among parts in post-order
 abbrev pub put : Part → List Part → List Part

@@ -4,9 +4,8 @@
 --   world_lists    a listing of a world is one of a state that agrees with it
 --   to_lists, of_lists
 --                  those of a state of the calculus are its traces
-use Rattle.std.proofs.Common.{◌≡◌, ◌≢◌, inl, inr, ℕ, true, cond, List, [], ◌∷◌, Option, Some, None, refl, sym, ap, ◌∙◌, subst}
-use Rattle.rev_num.specs.Path.{Path, before}
-use Rattle.rev_num.proofs.PostOrder.{same_refl, before_irrefl}
+use Rattle.std.proofs.Common.{◌≡◌, ℕ, List, Option, Some, None, refl, sym, ap, ◌∙◌, subst}
+use Rattle.rev_num.specs.Path.{Path}
 use Rattle.merge_decl.specs.Least.{Among}
 use Rattle.trace_diagram.specs.declared.diagram.Part.{Part}
 use Rattle.revision_machine.specs.PathMap.{PathMap}
@@ -14,7 +13,7 @@ use Rattle.revision_machine.specs.Machine.{Machine, Entry, Plain, Joined, Live}
 use Rattle.revision_machine.specs.Laws.{local_of, IsDistinct}
 use Rattle.revision_machine.specs.Simulation.{EntryAgrees}
 use Rattle.revision_machine.specs.Numbered.{Entries, at_number, paths_of, globe_of, machine_by}
-use Rattle.revision_machine.proofs.Paths.{some_inj, apart-same}
+use Rattle.revision_machine.proofs.Paths.{some_inj}
 use Rattle.revision_machine.proofs.Numbers.{none_some, globe_there}
 use Rattle.revision_calculus.specs.Program.{Setting}
 use Rattle.revision_calculus.specs.State as source
@@ -27,6 +26,7 @@ use Rattle.code_traces.specs.Parts.{part_in}
 use Rattle.code_traces.specs.Traces.{IsListing, IsTheOnly}
 use Rattle.code_traces.proofs.Lists.{same_list, sorted, sorted_only, sorted_all, sorted_order}
 use Rattle.audit_rules.proofs.TracesAsParts.{found}
+use Rattle.audit_rules.proofs.FinalTraces.{at_own}
 use Rattle.revision_machine.proofs.Schedules as schedules
 
 -- ---- by paths
@@ -139,16 +139,6 @@ module _ (A : Machine) (part : Path → A.Local → Part) (R : Path → A.Local 
     world_lists ps l = record { order = l.order; all = all_shown ps l; only = only_shown ps l }
 
 -- ---- traces of the calculus
-
--- each is found at its path
-at_own : (ps : List Part) → InPostOrder ps → (p : Part) → Among ps p → part_at ps p.path ≡ Some p
-at_own [] order p i = absurd i
-at_own (q ∷ ps) order p (inl e) =
-    subst (λ v. part_at (q ∷ ps) v.path ≡ Some v) e (ap (λ b. cond b (Some q) (part_at ps q.path)) (same_refl q.path))
-at_own (q ∷ ps) order p (inr i) =
-    let apart : q.path ≢ p.path =
-    λ e. before_irrefl q.path (subst (λ v. before q.path v ≡ true) (sym e) (order.0 p i)) in
-    ap (λ b. cond b (Some q) (part_at ps p.path)) (apart-same q.path p.path apart) ∙ at_own ps order.1 p i
 
 module _ (s : Setting) (revs : PathMap (Entry source.Local)) where
   abbrev Is : Path → Option Part → Option (Entry source.Local) → Type 0

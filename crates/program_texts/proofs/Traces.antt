@@ -1,16 +1,14 @@
 -- The trace of the end of a complete run has the form of a trace text.
-use Rattle.std.proofs.Common.{◌≡◌, ◌≢◌, ◌∙◌, inl, inr, ℕ, ◌+◌, ◌^◌, ◌<◌, ◌≤◌, true, false, cond, List, [], ◌∷◌, map, length, Option, Some, None, refl, sym, ap, subst, arith}
+use Rattle.std.proofs.Common.{◌≡◌, ◌∙◌, inl, inr, ℕ, ◌+◌, ◌^◌, ◌<◌, ◌≤◌, true, false, List, [], ◌∷◌, map, length, Option, Some, None, refl, sym, ap, subst, arith}
 use Rattle.std.specs.List.{AllByRecursion}
 use Rattle.rev_num.specs.Limits.{most_fuel}
 use Rattle.rev_num.specs.Path.{Path, before, child}
 use Rattle.rev_num.specs.declared.value.Value.{Value}
-use Rattle.rev_num.proofs.PostOrder.{before_irrefl, same_refl}
 use Rattle.merge_decl.specs.Least.{Among}
 use Rattle.block_run.specs.Agreement.{AreInputs}
 use Rattle.revision_machine.specs.Machine.{Moves, Forks, Entry, Global, Twice, Live, Revisions, Reached}
 use Rattle.revision_machine.specs.Laws.{local_of, Everywhere, HasMain}
 use Rattle.revision_machine.proofs.KeptByEvents.{kept_law}
-use Rattle.revision_machine.proofs.Paths.{apart-same}
 use Rattle.revision_machine.proofs.Standing.{standing_law}
 use Rattle.revision_calculus.specs.Program.{Setting}
 use Rattle.revision_calculus.specs.State.{Location, Noted, forked, joined, Phase, running, joining, done, trapped, Local}
@@ -29,6 +27,7 @@ use Rattle.audit_rules.specs.Parts.{change_of, changes, end_at, event_of, part_o
 use Rattle.audit_rules.specs.Traces.{InPostOrder, IsPartOf, IsTrace, part_at}
 use Rattle.audit_rules.proofs.CalculusMeets.{places_length}
 use Rattle.audit_rules.proofs.TracesAsParts.{found}
+use Rattle.audit_rules.proofs.FinalTraces.{at_own}
 use Rattle.program_texts.specs.Forms.{TracesHaveForm}
 use Rattle.program_texts.specs.Written.{IsWritten}
 use Rattle.program_texts.proofs.Joins.{join_fits}
@@ -66,15 +65,6 @@ end_fits ps done h below k = tt
 end_fits ps (trapped t) h below k = record { place_of = cause_placed ps t.cause h below; small = k.0; path = k.1 }
 
 -- ---- parts in post-order
-
-at_own : (ps : List Part) → InPostOrder ps → (p : Part) → Among ps p → part_at ps p.path ≡ Some p
-at_own [] order p i = absurd i
-at_own (q ∷ ps) order p (inl e) =
-    subst (λ v. part_at (q ∷ ps) v.path ≡ Some v) e (ap (λ b. cond b (Some q) (part_at ps q.path)) (same_refl q.path))
-at_own (q ∷ ps) order p (inr i) =
-    let apart : q.path ≢ p.path =
-    λ e. before_irrefl q.path (subst (λ v. before q.path v ≡ true) (sym e) (order.0 p i)) in
-    ap (λ b. cond b (Some q) (part_at ps p.path)) (apart-same q.path p.path apart) ∙ at_own ps order.1 p i
 
 none_before_main : (r q : Path) → r ≡ [] → before r q ≡ true → ⊥
 none_before_main r q e h = let clash : false ≡ true = sym (ap (λ v. before v q) e) ∙ h in cc
