@@ -21,7 +21,7 @@ module _ {L R A E : Type 0} (d : HubMachine L R A E) (ends : E → L → Type 0)
     pub ran : Ran d ends (w.said ++ mark.Ready ∷ []) between w n r
     pub world : HasWorld d ends w
 
-  -- the end of the joinee m and the join of it by k, and then that fork, told as if the seat had taken the turn between the two: three entries
+  -- the joinee m ends, k joins it, and then forks: three entries, told as if the seat had taken the turn between
   pub record KeptBehind (v w : View L) (m k : ℕ) (l : L) (c : R) (n : ℕ) (r : R) : Type 0 where
     pub between : View L
     pub settled : Settled d ends v between m k l

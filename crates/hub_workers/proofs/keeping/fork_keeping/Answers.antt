@@ -1,4 +1,4 @@
--- Answers of fork_keeping: behind both entries the split is the fork of the joiner's leg, and the child is out with the seat.
+-- Answers of fork_keeping: behind both entries the split is that of the joiner's leg, and the seat has the child.
 use Rattle.std.proofs.Common.{rules, ◌≡◌, sym, ap, ◌∙◌, subst}
 use Rattle.revision_machine.specs.Numbered.{Bears}
 use Rattle.hub_core.specs.Seats.{HasState}

@@ -1,4 +1,4 @@
--- Answers of drive: behind a joinee, a joiner that took its end in and a forker whose child is kept, the seat is still the hub's.
+-- Answers of drive: behind a joinee, an end that was taken in or a child that is kept, the seat is still the hub's.
 use Rattle.std.proofs.Common.{sym, ◌∙◌, subst}
 use Rattle.hub_workers.specs.Handed.{OnlyNext}
 use Rattle.hub_workers.proofs.worker.drive.Goals as goal

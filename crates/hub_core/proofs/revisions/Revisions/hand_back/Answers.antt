@@ -1,4 +1,4 @@
--- Answers of Revisions::hand_back: its status changes no list, and in the list of what is ready its number is the first.
+-- Answers of Revisions::hand_back: its status changes no list, and of what is ready its number is the first.
 use Rattle.std.proofs.Common.{sym, subst}
 use Rattle.hub_core.specs.Chains.{ReadiesOne}
 use Rattle.hub_core.proofs.revisions.Revisions.hand_back.Goals as goal

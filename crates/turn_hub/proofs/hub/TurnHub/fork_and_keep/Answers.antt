@@ -1,4 +1,4 @@
--- Answers of TurnHub::fork_and_keep: behind the two entries the seat forks and takes the child, as if it had taken the turn then.
+-- Answers of TurnHub::fork_and_keep: behind the two entries the seat forks and takes the child, as in its own turn.
 use Rattle.std.proofs.Common.{rules, ◌≡◌, refl, inl, true, false, sym, ap, ◌∙◌}
 use Rattle.std.proofs.lemmas.Result.{IfOk-weaker, IfErr-weaker}
 use Rattle.hub_core.specs.declared.state.HubState.TheVariants.{All}

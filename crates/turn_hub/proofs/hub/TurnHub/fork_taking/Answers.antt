@@ -1,4 +1,4 @@
--- Answers of TurnHub::fork_taking: the child is the first that is ready after the fork, so it is that which the seat takes.
+-- Answers of TurnHub::fork_taking: after the fork the child is the first that is ready, so the seat takes it.
 use Rattle.std.proofs.Common.{◌∷◌, refl, sym, ap, ◌∙◌, subst}
 use Rattle.hub_core.specs.Seats.{HasCurrent}
 use Rattle.hub_core.proofs.Queues.{queue_few, queue_add, queue_kept}
