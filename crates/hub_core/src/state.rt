@@ -1,7 +1,7 @@
 //! How far a hub is.
 
 /// Whether a halt was entered, and which was entered first.
-#[derive(Clone, Copy)]
+#[derive(Clone, Copy, PartialEq, Eq)]
 pub enum HubState {
     /// None.
     All,

@@ -3,7 +3,7 @@ ghost use Rattle.std.specs.Prelude.{◌≡◌};
 ghost use Rattle.rev_syntax.specs.Words as spec;
 
 /// A token that is always spelled alike: a reserved word, or a sign.
-#[derive(Clone, Copy, Debug, Drop)]
+#[derive(Clone, Copy, PartialEq, Eq, Debug, Drop)]
 pub enum Fixed {
     // The reserved words.
     Fun,

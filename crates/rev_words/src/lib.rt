@@ -28,7 +28,7 @@ use settings::{is_flagged, mode_of, setting, small_setting};
 use std::alloc::Global;
 
 /// What a call does.
-#[derive(Clone, Copy)]
+#[derive(Clone, Copy, PartialEq, Eq)]
 pub enum Mode {
     /// Reads the text of a program, runs it and reports its outcome.
     Run,

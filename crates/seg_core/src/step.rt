@@ -46,7 +46,7 @@ pub enum SegStep {
 }
 
 /// What a step came to.
-#[derive(Clone, Copy)]
+#[derive(Clone, Copy, PartialEq, Eq)]
 pub enum Applied {
     /// It was made.
     Done,

@@ -10,7 +10,7 @@ use crate::delta::Delta;
 use std::alloc::{AllocError, Global};
 
 /// How a child has its base.
-#[derive(Clone, Copy)]
+#[derive(Clone, Copy, PartialEq, Eq)]
 pub enum How {
     /// It shares what its forker reads, and the forker's delta has become a part of that.
     Shared,

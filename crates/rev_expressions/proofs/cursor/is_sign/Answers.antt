@@ -6,5 +6,5 @@ use Rattle.rev_expressions.proofs.cursor.is_sign.Goals as goal
 
 pub returns-in-Fixed : goal.returns-in-Fixed
 returns-in-Fixed c =
-    same_words c.args.sign c.in-Fixed.found
+    c.eq.ensures ∙ same_words c.args.sign c.in-Fixed.found
     ∙ ap (λ k. is_same (fixed c.args.sign) (class_of k)) (sym c.in-Fixed.is)
