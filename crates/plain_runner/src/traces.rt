@@ -1,10 +1,11 @@
 //! The trace of a program.
 
-ghost use Rattle.std.specs.Prelude.{◌≤◌, IfOk};
+ghost use Rattle.std.specs.Prelude.{◌≡◌, ◌≤◌, IfOk};
 ghost use Rattle.std.specs.List.Sorted.{IsPermutation};
 ghost use Rattle.rev_num.specs.Limits.{most_fuel};
 ghost use Rattle.rev_syntax.specs.View.{program as whole};
 ghost use Rattle.audit_rules.specs.Traced.{HasTrace};
+ghost use Rattle.trace_parts.specs.PartOfRevision.{part_by};
 ghost use Rattle.plain_runner.specs.Made.{parts_by};
 
 use crate::language::PlainLanguage;
@@ -15,6 +16,17 @@ use revision_steps::Local;
 use std::alloc::{AllocError, Global};
 use trace_diagram::{Part, Trace};
 use trace_parts::{part_of, places_of, put_in_order};
+
+/// The part of a revision, which is let go.
+fn into_part<'a>(
+    alloc: Global,
+    places: &[Bytes],
+    revision: RevisionRow<Local<'a>>,
+) -> Result<Part, AllocError>
+    ensures { IfOk result (λ p. p ≡ part_by places.now revision.entry.path revision.entry.state) }
+{
+    part_of(alloc, places, revision.path, &revision.state)
+}
 
 /// The parts of these revisions, in any order.
 fn parts_of<'a>(
@@ -28,7 +40,7 @@ fn parts_of<'a>(
     let mut parts = Vec::with_capacity(alloc, revisions.len())?;
     let mut rest = revisions;
     while let Some(revision) = rest.pop() {
-        parts.push(part_of(alloc, places, revision.path, &revision.state)?)?;
+        parts.push(into_part(alloc, places, revision)?)?;
     }
     Ok(parts)
 }

@@ -6,16 +6,4 @@ pub loop-revision-preserved : goal.loop-revision-preserved
 loop-revision-preserved c =
     popped_more c.args.places.now c.args.revisions.items c.loop-revision.rest.items c.pop.new.self.items
     c.in-Some.revision _ c.loop-revision.parts.items c.push.new.self.items c.in-Some.ensures.items
-    c.in_ok-part_of.ensures c.in_ok-push.ensures.items c.loop-revision.invariant
-
-pub loop-revision-preserved-in_ok-push : goal.loop-revision-preserved-in_ok-push
-loop-revision-preserved-in_ok-push c =
-    popped_more c.args.places.now c.args.revisions.items c.loop-revision.rest.items c.pop.new.self.items
-    c.in-Some.revision _ c.loop-revision.parts.items c.push.new.self.items c.in-Some.ensures.items
-    c.in_ok-part_of.ensures c.in_ok-push.ensures.items c.loop-revision.invariant
-
-pub loop-revision-preserved-in_ok-push-2 : goal.loop-revision-preserved-in_ok-push-2
-loop-revision-preserved-in_ok-push-2 c =
-    popped_more c.args.places.now c.args.revisions.items c.loop-revision.rest.items c.pop.new.self.items
-    c.in-Some.revision _ c.loop-revision.parts.items c.push.new.self.items c.in-Some.ensures.items
-    c.in_ok-part_of.ensures c.in_ok-push.ensures.items c.loop-revision.invariant
+    c.in_ok-into_part.ensures c.in_ok-push.ensures.items c.loop-revision.invariant
