@@ -22,8 +22,8 @@ use Rattle.revision_machine.proofs.Schedules as schedules
 use Rattle.code_memos.specs.Births as births
 use Rattle.code_memos.specs.Births.{Born}
 use Rattle.code_memos.proofs.Births.{one_birth, runs_then}
-use Rattle.code_reads.specs.Reads.{reach_reads}
-use Rattle.code_reads.specs.Legs.{leg_reads}
+use Rattle.code_machine_laws.specs.Reads.{reach_reads}
+use Rattle.code_machine_laws.specs.LegReads.{leg_reads}
 use Rattle.code_machine.specs.Local.{CodeRun, IsVerified, under, Local, at_work, end_of}
 use Rattle.code_machine.specs.Leg.{leg, clock}
 use Rattle.code_machine.specs.Machines.{machine, numbered, Holds, IsMain, start_in}

@@ -9,10 +9,10 @@ use Rattle.rev_code.specs.Step.{Comes, goes, traps, forks, joins, ends, stuck, r
 use Rattle.rev_code.specs.Events.{start}
 use Rattle.code_machine_laws.specs.Forms.{ComesTo, to_next, to_write, to_payment, to_trap, to_fork, to_join, to_end, to_nothing}
 use Rattle.code_machine_laws.proofs.Forms.{holds_of_reach}
-use Rattle.code_reads.specs.Reads.{reach_reads}
-use Rattle.code_reads.specs.Moved.{over, moved, moved_comes, AllAgree}
-use Rattle.code_reads.specs.Laws.{with_inputs}
-use Rattle.code_reads.proofs.Moving.{reach_same}
+use Rattle.code_machine_laws.specs.Reads.{reach_reads}
+use Rattle.code_machine_laws.specs.Moved.{over, moved, moved_comes, AllAgree}
+use Rattle.code_machine_laws.specs.ReadLaws.{with_inputs}
+use Rattle.code_machine_laws.proofs.Moving.{reach_same}
 use Rattle.code_machine.specs.Local.{Local, with_entry, written_from, end_of}
 use Rattle.code_memos.specs.Leaf.{Fresh, unwritten, IsFresh, ended_by, root_or, reroot, rerooted}
 use Rattle.code_memos.specs.Laws.{ValidIsTheEnd}

@@ -11,7 +11,7 @@ use Rattle.rev_code.specs.State.{Location, State, Setting}
 use Rattle.rev_code.specs.Variables.{Place, scalar, array, cell_at}
 use Rattle.rev_code.specs.Step.{Comes, goes, traps, forks, joins, ends, stuck, step, reach}
 use Rattle.rev_code.specs.Funs.{setting, values}
-use Rattle.code_reads.specs.Reads.{Read, if_unwritten, of_location, of_place, of_scalar, of_cell, of_position, of_index, of_input, act_reads, reads_at, reads_in, step_reads, then_reads, reach_reads}
+use Rattle.code_machine_laws.specs.Reads.{Read, if_unwritten, of_location, of_place, of_scalar, of_cell, of_position, of_index, of_input, act_reads, reads_at, reads_in, step_reads, then_reads, reach_reads}
 use Rattle.code_machine.specs.Local.{Local, with_entry, written_from, end_of}
 use Rattle.code_machine.specs.Renamed.{renamed_word, renamed_written, renamed_location, renamed_as, renamed_phase}
 use Rattle.code_memos.specs.Renaming.{renamed_read, renamed_entry, renamed_end, renamed_event}

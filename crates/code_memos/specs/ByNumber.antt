@@ -16,7 +16,7 @@ use Rattle.revision_machine.specs.Laws.{local_of, IsIn, IsDistinct}
 use Rattle.revision_machine.specs.Numbered as numbers
 use Rattle.revision_machine.specs.Numbered.{Entries, World, Both, Listing, at_number, number_of, paths_of, begin, Replays}
 use Rattle.code_memos.specs.Births.{Born}
-use Rattle.code_reads.specs.Legs.{leg_reads}
+use Rattle.code_machine_laws.specs.LegReads.{leg_reads}
 use Rattle.code_machine.specs.Local.{CodeRun, IsVerified, Local, at_work, end_of}
 use Rattle.code_machine.specs.Leg.{leg}
 use Rattle.code_machine.specs.Machines.{machine, numbered, IsMain, start_in}

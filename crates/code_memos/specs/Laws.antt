@@ -5,8 +5,8 @@ use Rattle.rev_code.specs.State.{Setting, State}
 use Rattle.rev_code.specs.declared.code.Code.{Code}
 use Rattle.rev_code.specs.Step.{reach}
 use Rattle.rev_code.specs.Funs.{setting}
-use Rattle.code_reads.specs.Reads.{reach_reads}
-use Rattle.code_reads.specs.Laws.{with_inputs}
+use Rattle.code_machine_laws.specs.Reads.{reach_reads}
+use Rattle.code_machine_laws.specs.ReadLaws.{with_inputs}
 use Rattle.code_machine.specs.Local.{Local, end_of}
 use Rattle.code_machine.specs.Renamed.{renamed_as}
 use Rattle.code_memos.specs.Renaming.{renamed_read, renamed_event, renamed_end}

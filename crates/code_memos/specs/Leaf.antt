@@ -14,8 +14,8 @@ use Rattle.rev_code.specs.Words.{Word, fits}
 use Rattle.rev_code.specs.State.{Location, Setting, State}
 use Rattle.rev_code.specs.Step.{Comes, goes, traps, forks, joins, ends, stuck, reach, params}
 use Rattle.rev_code.specs.Events.{start}
-use Rattle.code_reads.specs.Reads.{Read, reach_reads}
-use Rattle.code_reads.specs.Moved.{AllAgree}
+use Rattle.code_machine_laws.specs.Reads.{Read, reach_reads}
+use Rattle.code_machine_laws.specs.Moved.{AllAgree}
 use Rattle.version_map.specs.Composing.{Entry}
 use Rattle.code_machine.specs.Local.{done, trapped, Local, has_ended, End, end_of}
 

@@ -2,7 +2,7 @@
 use Rattle.std.specs.Prelude.{ℕ, map}
 use Rattle.rev_code.specs.Words.{Word}
 use Rattle.rev_code.specs.Step.{Comes, goes, traps, forks, joins, ends, stuck}
-use Rattle.code_reads.specs.Reads.{Read, location, input, count}
+use Rattle.code_machine_laws.specs.Reads.{Read, location, input, count}
 use Rattle.version_map.specs.Composing.{Entry}
 use Rattle.code_machine.specs.Local.{End}
 use Rattle.code_machine.specs.Renamed.{renamed_word, renamed_written, renamed_as, renamed_phase}

@@ -5,7 +5,7 @@ use Rattle.rev_code.specs.State.{State}
 use Rattle.revision_machine.specs.Machine.{Plain}
 use Rattle.revision_machine.specs.Numbered.{Entries, World, Both, Listing, at_number}
 use Rattle.code_machine.specs.Local.{CodeRun, IsVerified, Local, at_work}
-use Rattle.code_reads.specs.Legs.{leg_reads}
+use Rattle.code_machine_laws.specs.LegReads.{leg_reads}
 use Rattle.code_machine_laws.specs.Reached.{IsReached}
 use Rattle.noting_run.specs.declared.notes.ReadMarks.{ReadMarks}
 use Rattle.noting_run.specs.Marks.{marks_of, HasMarked}

@@ -8,7 +8,7 @@ use Rattle.rev_code.specs.State.{State}
 use Rattle.revision_machine.specs.Machine.{Plain}
 use Rattle.revision_machine.specs.Numbered.{Entries, World, Listing, at_number, put_number}
 use Rattle.code_machine.specs.Local.{CodeRun, Local, at_work}
-use Rattle.code_reads.specs.Legs.{leg_reads}
+use Rattle.code_machine_laws.specs.LegReads.{leg_reads}
 use Rattle.noting_run.specs.declared.notes.ReadMarks.{ReadMarks}
 use Rattle.noting_run.specs.Marks.{marks_of, HasMarked}
 use Rattle.code_world.specs.declared.advance.Came.{Came}

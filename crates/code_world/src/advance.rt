@@ -8,7 +8,7 @@ ghost use Rattle.block_run.specs.Area.{count};
 ghost use Rattle.rev_vm.specs.Meaning.{AreMergesOf};
 ghost use Rattle.code_machine.specs.Local.{CodeRun, End};
 ghost use Rattle.code_machine.specs.Leg.{leg};
-ghost use Rattle.code_reads.specs.Legs.{leg_reads};
+ghost use Rattle.code_machine_laws.specs.LegReads.{leg_reads};
 ghost use Rattle.noting_run.specs.Marks.{HasMarked, marks_of};
 ghost use Rattle.rev_vm.specs.Meaning.{IsEnd};
 ghost use Rattle.version_map.specs.Deltas.{locations};

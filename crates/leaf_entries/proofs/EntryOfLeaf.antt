@@ -19,9 +19,9 @@ use Rattle.version_map.specs.declared.end.EndValue.{EndValue}
 use Rattle.version_map.specs.declared.end.Finish.{Finish}
 use Rattle.version_map.specs.declared.end.Finish.TheVariants as finish
 use Rattle.version_map.specs.declared.end.Written.{Written}
-use Rattle.code_reads.specs.Reads as reads
-use Rattle.code_reads.specs.Reads.{Read}
-use Rattle.code_reads.specs.Moved.{AllAgree}
+use Rattle.code_machine_laws.specs.Reads as reads
+use Rattle.code_machine_laws.specs.Reads.{Read}
+use Rattle.code_machine_laws.specs.Moved.{AllAgree}
 use Rattle.noting_run.specs.declared.notes.ReadMarks.{ReadMarks}
 use Rattle.noting_run.specs.Marks.{marks_of, has_location, has_input, has_count}
 use Rattle.code_machine.specs.Local.{CodeRun, Phase, running, done, trapped, of_word}

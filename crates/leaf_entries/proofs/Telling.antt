@@ -9,11 +9,11 @@ use Rattle.rev_code.specs.Step.{Comes, goes, traps, forks, joins, ends, stuck}
 use Rattle.revision_machine.specs.Laws.{IsIn}
 use Rattle.revision_machine.specs.Numbered.{number_of, paths_of}
 use Rattle.revision_machine.proofs.Bearing.{in_front, in_back}
-use Rattle.code_reads.specs.Reads as reads
-use Rattle.code_reads.specs.Reads.{Read, reach_reads}
-use Rattle.code_reads.specs.Legs.{leg_reads}
-use Rattle.code_reads.specs.Moved.{AllAgree}
-use Rattle.code_reads.proofs.Own.{own_reads_agree}
+use Rattle.code_machine_laws.specs.Reads as reads
+use Rattle.code_machine_laws.specs.Reads.{Read, reach_reads}
+use Rattle.code_machine_laws.specs.LegReads.{leg_reads}
+use Rattle.code_machine_laws.specs.Moved.{AllAgree}
+use Rattle.code_machine_laws.proofs.OwnReads.{own_reads_agree}
 use Rattle.noting_run.specs.declared.notes.ReadMarks.{ReadMarks}
 use Rattle.noting_run.specs.Marks.{Mark, mark_of, marks_of, has_location, has_input, has_count, HasMarked}
 use Rattle.code_machine.specs.Local.{CodeRun, under, Local, at_work, of_word, of_written, of_locations, of_phase, of_state, with_entry, written_from, end_of}

@@ -6,9 +6,9 @@ use Rattle.rev_code.specs.declared.code.Code.{Code}
 use Rattle.rev_code.specs.declared.code.CodeVar.{CodeVar}
 use Rattle.rev_code.specs.Words.{Word}
 use Rattle.revision_machine.specs.Numbered.{path_in}
-use Rattle.code_reads.specs.Reads as reads
-use Rattle.code_reads.specs.Reads.{Read}
-use Rattle.code_reads.specs.Moved.{Agrees, AllAgree}
+use Rattle.code_machine_laws.specs.Reads as reads
+use Rattle.code_machine_laws.specs.Reads.{Read}
+use Rattle.code_machine_laws.specs.Moved.{Agrees, AllAgree}
 use Rattle.code_memos.specs.Leaf.{Fresh, Known, IsValid}
 use Rattle.code_world.specs.declared.freshness.FreshStart as rust
 use Rattle.leaf_entries.specs.declared.entry.KeptValue.{KeptValue}

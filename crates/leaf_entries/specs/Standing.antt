@@ -13,8 +13,8 @@ use Rattle.rev_code.specs.declared.code.Code.{Code}
 use Rattle.rev_code.specs.Words.{Word}
 use Rattle.code_soundness.specs.Typed.{location_kinds}
 use Rattle.version_map.specs.Composing.{Entry}
-use Rattle.code_reads.specs.Reads as reads
-use Rattle.code_reads.specs.Reads.{Read}
+use Rattle.code_machine_laws.specs.Reads as reads
+use Rattle.code_machine_laws.specs.Reads.{Read}
 use Rattle.code_machine.specs.Ends.{AreEntries, Ascend}
 use Rattle.code_machine.specs.Local.{Phase, running, done, trapped, End}
 use Rattle.code_machine.specs.Outcome.{value_of}

@@ -4,8 +4,8 @@ use Rattle.std.specs.Prelude.{ℤ, pos, negsuc, Option, Some, None, slice_get}
 use Rattle.rev_num.specs.Path.{Path}
 use Rattle.rev_code.specs.Words.{Word, int, bool, rev}
 use Rattle.revision_machine.proofs.Paths.{decide_same}
-use Rattle.code_reads.specs.Reads.{Read, location, input, count}
-use Rattle.code_reads.specs.Moved.{Agrees, AllAgree}
+use Rattle.code_machine_laws.specs.Reads.{Read, location, input, count}
+use Rattle.code_machine_laws.specs.Moved.{Agrees, AllAgree}
 use Rattle.code_machine.specs.Local.{CodeRun}
 use Rattle.code_machine.specs.Machines.{IsMain}
 use Rattle.code_machine.proofs.Changes.{decide}

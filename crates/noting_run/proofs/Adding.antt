@@ -3,8 +3,8 @@ use Rattle.std.proofs.Common.{◌≡◌, ◌∙◌, ℕ, Bool, true, false, List
 use Rattle.std.proofs.lemmas.List.{map-append}
 use Rattle.std.specs.Prelude.{◌||◌, nat_eq, is_some}
 use Rattle.version_map.specs.Deltas.{at}
-pub use Rattle.code_reads.proofs.Legs.{leg_reads_of_steps}
-use Rattle.code_reads.specs.Reads.{Read}
+pub use Rattle.code_machine_laws.proofs.LegReads.{leg_reads_of_steps}
+use Rattle.code_machine_laws.specs.Reads.{Read}
 use Rattle.noting_run.specs.declared.notes.ReadMarks.{ReadMarks}
 use Rattle.noting_run.specs.Marks.{Mark, location, input, count, mark_of, marks_of, has_location, has_input, has_count, HasMarked}
 

@@ -12,7 +12,7 @@ use Rattle.rev_code.specs.Step.{stuck, act}
 use Rattle.block_run.specs.Plain.{Run}
 use Rattle.block_run.specs.Agreement.{AreWords, IsRun}
 use Rattle.block_run.specs.Standing.{IsSeen, AreSeen}
-use Rattle.code_reads.specs.Reads.{if_unwritten, of_location, of_place, of_scalar, of_cell, of_position, of_index, of_input, act_reads}
+use Rattle.code_machine_laws.specs.Reads.{if_unwritten, of_location, of_place, of_scalar, of_cell, of_position, of_index, of_input, act_reads}
 use Rattle.noting_run.specs.Marks.{marks_of, if_first, place_marks, scalar_marks, cell_marks, position_marks, index_marks, input_marks, plain_marks}
 
 module _ (s : Setting ℕ) (c : State ℕ) (q : Run) (sees : ℕ → ℕ) (root : ℕ → Option ℕ) (run : IsRun c q)

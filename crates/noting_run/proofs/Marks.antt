@@ -3,8 +3,8 @@ use Rattle.std.proofs.Common.{◌≡◌, ◌∙◌, ℕ, Bool, true, false, ℤ,
 use Rattle.std.specs.Prelude.{slice_get, ◌||◌, nat_eq}
 use Rattle.std.proofs.lemmas.Bool.Decides.{nat_tests}
 use Rattle.rev_code.specs.Words.{Word}
-use Rattle.code_reads.specs.Reads.{Read, location, input, count}
-use Rattle.code_reads.specs.Moved.{AllAgree}
+use Rattle.code_machine_laws.specs.Reads.{Read, location, input, count}
+use Rattle.code_machine_laws.specs.Moved.{AllAgree}
 use Rattle.noting_run.specs.Marks.{marks_of, has_location, has_input, has_count}
 use Rattle.noting_run.specs.ByMarks.{MarksAgree, AgreesByMarks}
 

@@ -14,7 +14,7 @@ use Rattle.code_soundness.specs.AcceptedCode.{IsAccepted, notes_of}
 use Rattle.block_run.specs.Plain.{Run, plain}
 use Rattle.block_run.specs.Agreement.{Agrees, AreInputs, PushesInt}
 use Rattle.block_run.proofs.Rows.{rows}
-use Rattle.code_reads.specs.Reads.{act_reads, reads_at, reads_in, step_reads, reads_of}
+use Rattle.code_machine_laws.specs.Reads.{act_reads, reads_at, reads_in, step_reads, reads_of}
 use Rattle.block_run.specs.declared.registers.Registers.{Registers}
 use Rattle.block_run.specs.declared.registers.Stop.{Stop}
 use Rattle.block_run.specs.declared.registers.Stop.TheVariants as stop

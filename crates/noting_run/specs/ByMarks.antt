@@ -3,9 +3,9 @@
 --   AgreesByMarks     where these have what was read, others have it exactly where they agree with these on what is noted
 use Rattle.std.specs.Prelude.{◌≡◌, ◌↔◌, ℕ, ℤ, true, List, length, slice_get}
 use Rattle.rev_code.specs.Words.{Word}
-pub use Rattle.code_reads.specs.Legs.{leg_reads}
-use Rattle.code_reads.specs.Reads.{Read}
-use Rattle.code_reads.specs.Moved.{AllAgree}
+pub use Rattle.code_machine_laws.specs.LegReads.{leg_reads}
+use Rattle.code_machine_laws.specs.Reads.{Read}
+use Rattle.code_machine_laws.specs.Moved.{AllAgree}
 use Rattle.noting_run.specs.Marks.{Mark, marks_of, has_location, has_input, has_count}
 
 pub record MarksAgree {H : Type 0} (xs ys : List (Word H)) (inputs inputs' : List ℤ) (ms : List Mark) : Type 0 where

@@ -11,8 +11,8 @@ use Rattle.rev_code.specs.declared.code.Instr.TheVariants as i
 use Rattle.rev_code.specs.Variables.{Place, scalar, array, cell_at}
 use Rattle.version_map.specs.Deltas.{at, locations}
 use Rattle.block_run.specs.Plain.{Run}
-use Rattle.code_reads.specs.Reads as reads
-use Rattle.code_reads.specs.Reads.{Read}
+use Rattle.code_machine_laws.specs.Reads as reads
+use Rattle.code_machine_laws.specs.Reads.{Read}
 use Rattle.noting_run.specs.declared.notes.ReadMarks.{ReadMarks}
 
 pub data Mark : Type 0 where

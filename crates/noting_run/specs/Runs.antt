@@ -5,7 +5,7 @@ use Rattle.std.specs.Prelude.{ℕ, ℤ, List, ◌++◌, Option}
 use Rattle.rev_code.specs.declared.code.Code.{Code}
 use Rattle.rev_code.specs.declared.code.CodeBlock.{CodeBlock}
 use Rattle.rev_code.specs.State.{State}
-pub use Rattle.code_reads.specs.Reads.{reads_of, step_reads}
+pub use Rattle.code_machine_laws.specs.Reads.{reads_of, step_reads}
 use Rattle.block_run.specs.declared.registers.Registers.{Registers}
 use Rattle.block_run.specs.declared.registers.Stop.{Stop}
 use Rattle.block_run.specs.declared.registers.Stop.TheVariants as stop

@@ -29,7 +29,7 @@ use Rattle.code_world.specs.Meetings.{HasMeeting, MeetingOf, HasNoted}
 use Rattle.code_world.specs.Tables.{IsWorld}
 use Rattle.noting_run.specs.declared.notes.ReadMarks.{ReadMarks}
 use Rattle.noting_run.specs.Marks.{marks_of, HasMarked}
-use Rattle.code_reads.specs.Legs.{leg_reads}
+use Rattle.code_machine_laws.specs.LegReads.{leg_reads}
 use Rattle.version_map.specs.Deltas.{locations}
 use Rattle.code_world.specs.Between.{HasReadOf, HasReadIn}
 use Rattle.leaf_entries.specs.Told.{IsBlank}

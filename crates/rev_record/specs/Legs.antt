@@ -16,7 +16,7 @@ use Rattle.version_map.specs.Deltas.{locations}
 use Rattle.leg_run.specs.declared.revision.Meeting.{Meeting}
 use Rattle.revision_machine.specs.Machine.{Plain}
 use Rattle.revision_machine.specs.Numbered.{Entries, World, Listing, at_number, begin, Replays}
-use Rattle.code_reads.specs.Legs.{leg_reads}
+use Rattle.code_machine_laws.specs.LegReads.{leg_reads}
 use Rattle.noting_run.specs.declared.notes.ReadMarks.{ReadMarks}
 use Rattle.noting_run.specs.Marks.{marks_of, HasMarked}
 use Rattle.code_machine.specs.Local.{CodeRun, Local, at_work}

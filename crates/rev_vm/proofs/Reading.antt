@@ -5,7 +5,7 @@ use Rattle.version_map.specs.declared.delta.Delta.{Delta}
 use Rattle.version_map.specs.Deltas.{at}
 use Rattle.version_map.specs.Overlay as overlay
 use Rattle.code_machine.specs.Local.{CodeRun}
-use Rattle.code_reads.specs.Legs.{leg_reads}
+use Rattle.code_machine_laws.specs.LegReads.{leg_reads}
 use Rattle.leg_run.specs.Noting.{ReadMarks, HasMarked, marks_of}
 use Rattle.leg_run.specs.declared.revision.Run.{Run}
 use Rattle.leg_run.specs.Standing.{state_of}

@@ -4,7 +4,7 @@ ghost use Rattle.std.specs.Prelude.{◌≡◌, ◌<◌, ◌^◌, length, IfOk};
 ghost use Rattle.version_map.specs.Deltas.{at, locations};
 ghost use Rattle.version_map.specs.Overlay.{under};
 ghost use Rattle.block_run.specs.Area.{count};
-ghost use Rattle.code_reads.specs.Legs.{leg_reads};
+ghost use Rattle.code_machine_laws.specs.LegReads.{leg_reads};
 ghost use Rattle.leg_run.specs.Ends.{LegEnds};
 ghost use Rattle.leg_run.specs.Noting.{HasMarked, marks_of};
 ghost use Rattle.leg_run.specs.Standing.{IsStanding, state_of};

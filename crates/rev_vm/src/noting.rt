@@ -9,7 +9,7 @@ ghost use Rattle.version_map.specs.Deltas.{locations};
 ghost use Rattle.block_run.specs.Area.{count};
 ghost use Rattle.code_machine.specs.Leg.{leg};
 ghost use Rattle.code_machine.specs.Local.{done, end_of, has_ended};
-ghost use Rattle.code_reads.specs.Legs.{leg_reads};
+ghost use Rattle.code_machine_laws.specs.LegReads.{leg_reads};
 ghost use Rattle.leg_run.specs.Noting.{HasMarked, marks_of};
 ghost use Rattle.rev_vm.specs.declared.leg.Event.TheVariants as event;
 ghost use Rattle.rev_vm.specs.Legs.{trap_of};

@@ -3,7 +3,7 @@ use Rattle.std.proofs.lemmas.Result.{IfOk-weaker}
 use Rattle.version_map.specs.Deltas.{at}
 use Rattle.version_map.specs.Overlay.{under}
 use Rattle.block_run.specs.Area.{count}
-use Rattle.code_reads.specs.Legs.{leg_reads}
+use Rattle.code_machine_laws.specs.LegReads.{leg_reads}
 use Rattle.leg_run.specs.Noting.{marks_of}
 use Rattle.leg_run.specs.Standing.{state_of}
 use Rattle.leg_run.proofs.NotedLegs.{marked_back, on_of, places_of}

@@ -1,10 +1,10 @@
-//! What code reads of its snapshot and of the input, and that nothing else of them matters. Each law
-//! is an empty function.
-#![tactic(auto)]
+//! What code reads of its snapshot and of the input, and that nothing else of them matters.
+//!
+//! The laws are empty functions.
 
-ghost use Rattle.code_reads.specs.Laws.{OwnReadsAgree, ReachIsByReads, StepIsByReads};
-ghost use Rattle.code_reads.specs.Legs.{LegReadsOfSteps};
-ghost use Rattle.code_reads.specs.Rows.{NumberAlone, OnceRead, OtherInputs, OutOfRange};
+ghost use Rattle.code_machine_laws.specs.ReadLaws.{OwnReadsAgree, ReachIsByReads, StepIsByReads};
+ghost use Rattle.code_machine_laws.specs.LegReads.{LegReadsOfSteps};
+ghost use Rattle.code_machine_laws.specs.WorkedReads.{NumberAlone, OnceRead, OtherInputs, OutOfRange};
 
 /// What an instruction comes to, and what a row of instructions comes to, is by what they read of
 /// the snapshot and of the input; and what they read is what these have.
@@ -15,7 +15,7 @@ pub fn read_laws<H>()
 {}
 
 /// A leg of verified code reads what the steps to its event read, and the instruction there.
-pub fn leg_law<H>()
+pub fn leg_read_law<H>()
     ensures { LegReadsOfSteps H }
 {}
 

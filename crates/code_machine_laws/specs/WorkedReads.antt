@@ -12,8 +12,8 @@ use Rattle.rev_code.specs.Words.{int}
 use Rattle.rev_code.specs.Variables.{start_locations}
 use Rattle.rev_code.specs.Funs.{setting}
 use Rattle.rev_code.specs.Events.{start}
-use Rattle.code_reads.specs.Reads.{Read, location, input, count, reach_reads}
-use Rattle.code_reads.specs.Moved.{AllAgree}
+use Rattle.code_machine_laws.specs.Reads.{Read, location, input, count, reach_reads}
+use Rattle.code_machine_laws.specs.Moved.{AllAgree}
 
 abbrev scalar_x : CodeVar
 scalar_x = record { name = codes "x"; cumulative = false; kind = k.Int; array = false; cells = 1; start = 0; merge = 65535 }

@@ -17,10 +17,10 @@ use Rattle.rev_code.specs.Variables.{Place, scalar, array, cell_at}
 use Rattle.rev_code.specs.Printing.{printed_kinds}
 use Rattle.rev_code.specs.Step as r
 use Rattle.rev_code.specs.Step.{Comes, goes, traps, forks, joins, ends, stuck, act, act_at, act_in, step, onward, reach, only, is_fun, is_procedure, arguments, value_at, params}
-use Rattle.code_reads.specs.Reads.{Read, count, of_place, of_scalar, of_cell, of_input, act_reads, reads_at, reads_in, step_reads, then_reads, reach_reads}
-use Rattle.code_reads.specs.Moved.{over, moved, moved_comes, AllAgree}
-use Rattle.code_reads.specs.Laws.{with_inputs}
-use Rattle.code_reads.proofs.Snapshots.{seen_over, written_over, place_over, agree_first, agree_rest, input_too, index_too}
+use Rattle.code_machine_laws.specs.Reads.{Read, count, of_place, of_scalar, of_cell, of_input, act_reads, reads_at, reads_in, step_reads, then_reads, reach_reads}
+use Rattle.code_machine_laws.specs.Moved.{over, moved, moved_comes, AllAgree}
+use Rattle.code_machine_laws.specs.ReadLaws.{with_inputs}
+use Rattle.code_machine_laws.proofs.Snapshots.{seen_over, written_over, place_over, agree_first, agree_rest, input_too, index_too}
 
 module _ {H : Type 0} (ys : List (Word H)) where
   abbrev cm : Comes H → Comes H

@@ -4,8 +4,8 @@ use Rattle.std.specs.Prelude.{slice_get}
 use Rattle.rev_code.specs.Words.{Word}
 use Rattle.rev_code.specs.State.{Location, seen, seen_at, written_at}
 use Rattle.rev_code.specs.Step as r
-use Rattle.code_reads.specs.Reads.{Read, location, count, if_unwritten, of_location, of_place, of_position, of_index}
-use Rattle.code_reads.specs.Moved.{over, AllAgree}
+use Rattle.code_machine_laws.specs.Reads.{Read, location, count, if_unwritten, of_location, of_place, of_position, of_index}
+use Rattle.code_machine_laws.specs.Moved.{over, AllAgree}
 
 none_too : (inputs inputs' : List ℤ) (n : ℕ) → length inputs' ≡ length inputs → slice_get inputs n ≡ None
     → slice_get inputs' n ≡ None

@@ -12,9 +12,9 @@ use Rattle.rev_code.specs.Step.{Comes, goes, traps, forks, joins, ends, stuck, s
 use Rattle.code_machine_laws.specs.Forms.{ComesTo, to_next, to_write, to_payment, to_trap, to_fork, to_join, to_end, to_nothing}
 use Rattle.code_machine_laws.proofs.Forms.{step_form}
 use Rattle.code_machine_laws.specs.Reached.{snapshots}
-use Rattle.code_reads.specs.Reads.{Read, if_unwritten, of_location, of_place, of_scalar, of_cell, of_position, of_index, of_input, act_reads, reads_at, reads_in, step_reads, then_reads, reach_reads}
-use Rattle.code_reads.specs.Moved.{AllAgree}
-use Rattle.code_reads.specs.Laws.{OwnReadsAgree}
+use Rattle.code_machine_laws.specs.Reads.{Read, if_unwritten, of_location, of_place, of_scalar, of_cell, of_position, of_index, of_input, act_reads, reads_at, reads_in, step_reads, then_reads, reach_reads}
+use Rattle.code_machine_laws.specs.Moved.{AllAgree}
+use Rattle.code_machine_laws.specs.ReadLaws.{OwnReadsAgree}
 
 module _ {H : Type 0} where
   pub snapshots_stay : (ls : List (Location H)) (n : ℕ) (w : Word H) → snapshots (written_at ls n w) ≡ snapshots ls

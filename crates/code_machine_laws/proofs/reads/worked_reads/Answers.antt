@@ -1,7 +1,7 @@
 -- Answers of worked_reads: the reads of each small procedure compute to those stated; another input disagrees.
 use Rattle.std.proofs.Common.{refl}
-use Rattle.code_reads.proofs.Apart.{apart}
-use Rattle.code_reads.proofs.worked_reads.Goals as goal
+use Rattle.code_machine_laws.proofs.Apart.{apart}
+use Rattle.code_machine_laws.proofs.reads.worked_reads.Goals as goal
 
 pub returns : goal.returns
 returns c = record {

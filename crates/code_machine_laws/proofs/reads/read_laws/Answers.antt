@@ -1,7 +1,7 @@
 -- Answers of read_laws: what an instruction comes to hangs on its reads alone, and so with a row of them.
-use Rattle.code_reads.proofs.Moving.{step_same, reach_same}
-use Rattle.code_reads.proofs.Own.{own_reads_agree}
-use Rattle.code_reads.proofs.read_laws.Goals as goal
+use Rattle.code_machine_laws.proofs.Moving.{step_same, reach_same}
+use Rattle.code_machine_laws.proofs.OwnReads.{own_reads_agree}
+use Rattle.code_machine_laws.proofs.reads.read_laws.Goals as goal
 
 pub returns-clause-step : goal.returns-clause-step
 returns-clause-step g c = λ s d ys inputs share h. step_same s ys inputs share d h

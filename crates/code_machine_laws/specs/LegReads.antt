@@ -4,7 +4,7 @@
 use Rattle.std.specs.Prelude.{◌≡◌, List, ◌++◌}
 use Rattle.rev_code.specs.State.{State}
 use Rattle.rev_code.specs.Step.{Comes}
-use Rattle.code_reads.specs.Reads.{Read, step_reads, reach_reads, reads_of}
+use Rattle.code_machine_laws.specs.Reads.{Read, step_reads, reach_reads, reads_of}
 use Rattle.code_machine_laws.specs.Instance.{CodeRun, IsVerified}
 use Rattle.code_machine_laws.specs.Laws.{under}
 use Rattle.code_machine_laws.specs.Legs.{IsLeg}

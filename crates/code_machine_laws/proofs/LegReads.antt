@@ -14,8 +14,8 @@ use Rattle.code_machine_laws.proofs.Keeping.{under}
 use Rattle.code_machine_laws.specs.Laws.{IsEvent, longest}
 use Rattle.code_machine_laws.proofs.Keeping.{clock}
 use Rattle.code_machine_laws.proofs.Keeping.{accepted, no_longer}
-use Rattle.code_reads.specs.Reads.{Read, step_reads, then_reads, reach_reads, reads_of}
-use Rattle.code_reads.specs.Legs.{LegReadsOfSteps}
+use Rattle.code_machine_laws.specs.Reads.{Read, step_reads, then_reads, reach_reads, reads_of}
+use Rattle.code_machine_laws.specs.LegReads.{LegReadsOfSteps}
 
 module _ (g : CodeRun) (ok : IsVerified g) {H : Type 0} where
   bounded : (c c' : State H) → step (under g) c ≡ goes c' → clock g c' < clock g c

@@ -5,7 +5,7 @@ use Rattle.std.specs.Prelude.{◌≡◌, ℤ, List, [], ◌∷◌, length, Some,
 use Rattle.rev_code.specs.Words.{Word}
 use Rattle.rev_code.specs.State.{Location, State}
 use Rattle.rev_code.specs.Step.{Comes, goes, traps, forks, joins, ends, stuck}
-use Rattle.code_reads.specs.Reads.{Read, location, input, count}
+use Rattle.code_machine_laws.specs.Reads.{Read, location, input, count}
 
 -- these words, location by location, in place of the snapshot's
 abbrev pub over : {H : Type 0} → List (Word H) → List (Location H) → List (Location H)

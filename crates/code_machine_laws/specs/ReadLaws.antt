@@ -4,8 +4,8 @@ use Rattle.rev_code.specs.Words.{Word}
 use Rattle.rev_code.specs.State.{Setting, State}
 use Rattle.rev_code.specs.Step.{step, reach}
 use Rattle.code_machine_laws.specs.Reached.{snapshots}
-use Rattle.code_reads.specs.Reads.{step_reads, reach_reads}
-use Rattle.code_reads.specs.Moved.{moved, moved_comes, AllAgree}
+use Rattle.code_machine_laws.specs.Reads.{step_reads, reach_reads}
+use Rattle.code_machine_laws.specs.Moved.{moved, moved_comes, AllAgree}
 
 -- the same code and funs, with other inputs and another share
 abbrev pub with_inputs : {H : Type 0} → Setting H → List ℤ → (share : ℕ) → Setting H
