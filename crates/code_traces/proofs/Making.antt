@@ -22,8 +22,8 @@ use Rattle.revision_machine.proofs.Lists.{at_below, below_at}
 use Rattle.audit_rules.specs.Traces as calculus_traces
 use Rattle.trace_parts.specs.PartOfRevision.{is_sooner}
 use Rattle.trace_parts.proofs.InOrder.{AreOnce, contains_among, among_contains, distinct_once, in_order, once_moved}
-use Rattle.world_notes.specs.declared.noted.Noted.{Noted}
-use Rattle.world_notes.specs.Notes.{IsNoted, AreNoted}
+use Rattle.world_runs.specs.declared.noted.Noted.{Noted}
+use Rattle.world_runs.specs.Notes.{IsNoted, AreNoted}
 use Rattle.code_traces.specs.Parts.{change_of, end_at, event_of, part_in, path_in, places}
 use Rattle.code_traces.specs.Traces.{IsListing, IsPartOf}
 use Rattle.code_traces.specs.NotedParts.{AreOver, noted_part, parts_by, world_parts}

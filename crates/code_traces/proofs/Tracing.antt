@@ -18,7 +18,7 @@ use Rattle.code_machine_laws.specs.Outcomes.{IsCompleteRun}
 use Rattle.code_machine_laws.proofs.Outcomes.{by_main}
 use Rattle.code_runs.proofs.Least.{is_after}
 use Rattle.code_machine_laws.specs.Reached.{IsReached, most_fuel}
-use Rattle.world_notes.specs.Runs.{HasFinishedNoting}
+use Rattle.world_runs.specs.NotedRuns.{HasFinishedNoting}
 use Rattle.code_world.specs.declared.ending.MainEnd.{MainEnd}
 use Rattle.code_world.specs.declared.world.World as rust
 use Rattle.code_world.specs.declared.world.World.TheVariants as world
@@ -28,8 +28,8 @@ use Rattle.code_world.specs.Tables.{IsTable, IsWorld}
 use Rattle.code_world.proofs.Worlds.{world_live, world_twice}
 use Rattle.generated_blocks.proofs.Accepted.{code_accepted}
 use Rattle.code_traces.specs.Traces.{run_of}
-use Rattle.world_notes.specs.declared.noted.Noted.{Noted}
-use Rattle.world_notes.specs.Notes.{AreNoted, NotesOf}
+use Rattle.world_runs.specs.declared.noted.Noted.{Noted}
+use Rattle.world_runs.specs.Notes.{AreNoted, NotesOf}
 use Rattle.code_traces.specs.Traces.{AgreeOnTrace, HaveOneTrace, IsListing, IsTraceOf}
 use Rattle.code_traces.proofs.Worlds.{one_trace, traces_agree}
 use Rattle.code_traces.specs.NotedParts.{AreOver, HaveEnded}

@@ -16,7 +16,7 @@ use Rattle.revision_machine.specs.Numbered.{Entries, at_number, paths_of}
 use Rattle.rev_vm.specs.States.{entry_as, phase_as}
 use Rattle.code_machine.specs.Local.{CodeRun, Local}
 use Rattle.code_machine.specs.Proper.{IsOver}
-use Rattle.world_notes.specs.declared.noted.Noted.{Noted}
+use Rattle.world_runs.specs.declared.noted.Noted.{Noted}
 use Rattle.code_traces.specs.Parts.{change_of, end_at, event_of, part_in, path_in}
 
 abbrev pub noted_part : (places : List (List ℕ)) → List ValueKind → List Path → ℕ

@@ -13,8 +13,8 @@ use Rattle.code_machine.specs.Local.{CodeRun, Local}
 use Rattle.code_machine_laws.specs.Outcomes.{IsCompleteRun}
 use Rattle.code_traces.specs.Traces.{run_of}
 use Rattle.audit_rules.specs.Traced as program
-use Rattle.world_notes.specs.declared.noted.Noted.{Noted}
-use Rattle.world_notes.specs.Notes.{NotesOf}
+use Rattle.world_runs.specs.declared.noted.Noted.{Noted}
+use Rattle.world_runs.specs.Notes.{NotesOf}
 use Rattle.code_traces.specs.Traces.{IsTraceOf}
 use Rattle.code_runs.specs.Completed.{IsAfter}
 use Rattle.code_world.specs.declared.world.World as rust

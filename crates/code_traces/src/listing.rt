@@ -9,7 +9,7 @@ ghost use Rattle.code_world.specs.Endings.{Names};
 ghost use Rattle.rev_vm.specs.Starts.{run_under};
 ghost use Rattle.revision_machine.specs.Laws.{IsDistinct};
 ghost use Rattle.revision_machine.specs.Numbered.{Entries, paths_of};
-ghost use Rattle.world_notes.specs.Notes.{AreNoted};
+ghost use Rattle.world_runs.specs.Notes.{AreNoted};
 ghost use Rattle.code_traces.specs.Traces.{IsListing};
 ghost use Rattle.code_traces.specs.NotedParts.{AreOver, HaveEnded, noted_part, world_parts};
 
@@ -21,7 +21,7 @@ use rev_num::{Bytes, Items, ValueKind};
 use std::alloc::{AllocError, Global};
 use trace_diagram::{Part, Trace};
 use trace_parts::put_in_order;
-use world_notes::Noted;
+use world_runs::Noted;
 
 /// The part of the revision of this number, which has ended.
 fn part_noted(

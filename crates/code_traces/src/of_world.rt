@@ -7,7 +7,7 @@ ghost use Rattle.code_world.specs.Tables.{IsWorld};
 ghost use Rattle.code_machine_laws.specs.Reached.{IsReached};
 ghost use Rattle.revision_machine.specs.Numbered.{World as DefinedWorld};
 ghost use Rattle.rev_vm.specs.Starts.{run_under};
-ghost use Rattle.world_notes.specs.Notes.{NotesOf};
+ghost use Rattle.world_runs.specs.Notes.{NotesOf};
 ghost use Rattle.code_traces.specs.Traced.{IsTraceIn};
 
 use crate::listing::trace_of;
@@ -15,7 +15,7 @@ use code_world::World;
 use leg_run::CodeSetting;
 use std::alloc::{AllocError, Global};
 use trace_diagram::Trace;
-use world_notes::Noted;
+use world_runs::Noted;
 
 /// The trace of a world in which no revision has a leg, from the notes of its revisions. There is
 /// none where a revision was joined a second time. Want of memory is the one error.

@@ -15,7 +15,7 @@ use leg_run::CodeSetting;
 use rev_num::Outcome;
 use std::alloc::{AllocError, Global};
 use trace_diagram::Trace;
-use world_notes::{Noted, finish_noting, first_notes};
+use world_runs::{Noted, finish_noting, first_notes};
 
 /// What a run comes to: its outcome, and its trace, of which there is none where a revision was
 /// joined a second time.

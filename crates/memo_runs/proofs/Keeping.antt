@@ -20,7 +20,7 @@ use Rattle.code_memos.specs.ByNumber.{Refused}
 use Rattle.code_memos.proofs.ByNumber.{recorded_by_number, counted_by_number}
 use Rattle.code_memos.proofs.Numbers.{has_state}
 use Rattle.code_machine_laws.specs.Reached.{IsReached}
-pub use Rattle.world_notes.proofs.Noting.{not_over}
+pub use Rattle.world_runs.proofs.Noting.{not_over}
 use Rattle.memo_runs.specs.SoFar.{LeafLeg, IsOverAt, RecordedSoFar, IsRecordedSoFar, CountedSoFar, IsCountedSoFar}
 use Rattle.memo_runs.specs.Laws.{RecordedAtTheStart, RecordedWithout, RecordedWith, RecordedAtTheEnd, CountedAtTheStart, CountedWithout, CountedWith, CountedAtTheEnd}
 use Rattle.memo_runs.proofs.Leaves.{one_row, leaf_over, still_over, UnlistedOver, had_ended, is_leaf, unlisted_over}

@@ -20,9 +20,9 @@ use Rattle.code_machine.proofs.Changes.{decide, LegOf, leg_ways, legs_change}
 use Rattle.code_machine.proofs.Changes as changes
 use Rattle.code_memos.specs.Leaf.{ended_by}
 use Rattle.code_machine_laws.specs.Reached.{IsReached}
-use Rattle.world_notes.specs.Changes.{listed_by}
-use Rattle.world_notes.proofs.Adding.{went}
-use Rattle.world_notes.proofs.Noting.{not_over, own_after, OtherAfter, as_before, is_child, other_after}
+use Rattle.world_runs.specs.Changes.{listed_by}
+use Rattle.world_runs.proofs.Adding.{went}
+use Rattle.world_runs.proofs.Noting.{not_over, own_after, OtherAfter, as_before, is_child, other_after}
 use Rattle.memo_runs.specs.SoFar.{LeafLeg, IsOverAt}
 use Rattle.memo_runs.specs.Laws.{Unlisted, LeavesAreFound, AdoptedIsLeaf}
 

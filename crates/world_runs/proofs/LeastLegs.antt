@@ -23,7 +23,7 @@ use Rattle.world_runs.specs.declared.queue.ReadyQueue.{ReadyQueue}
 use Rattle.world_runs.specs.Queue.{HasReady}
 use Rattle.world_runs.specs.declared.made.Made.{Made}
 use Rattle.world_runs.specs.declared.made.Made.TheVariants as made
-use Rattle.world_runs.specs.Covers.{is_ready, CoversWorld, CoversWorldBut, IsKnown, IsNoted, IsStill}
+use Rattle.world_runs.specs.Covers.{is_ready, CoversWorld, CoversWorldBut, IsKnown, CoversAfter, IsStill}
 use Rattle.world_runs.specs.Finish.{HasTried, HasLeast, HasFinished}
 use Rattle.world_runs.specs.LegOrNone.{made_of}
 use Rattle.world_runs.proofs.Covering.{taken_out, least_has_it, none_has_it}
@@ -33,7 +33,7 @@ module _ (g : CodeRun) where
   -- ---- one try
 
   tries : (w : Entries (Local ℕ)) (n : ℕ) → IsReached g (Listing w) → (a : LegAnswer) (v : rust.World)
-      → LegAnswers g (Listing w) n a v → (q q' : ReadyQueue) → IsNoted g w n a q' → IsStill a q q'
+      → LegAnswers g (Listing w) n a v → (q q' : ReadyQueue) → CoversAfter g w n a q' → IsStill a q q'
       → HasTried g (Listing w) n (made_of v a) q q'
   tries w n h answer.Twice v l q q' noted still =
       let m = makes g w n h answer.Twice v l in (m.0, m.1, m.2, m.3, noted m.0 m.1)
@@ -70,7 +70,7 @@ module _ (g : CodeRun) where
     known_live = let x = entries in (g, x.0, v', x.2)
 
     pub tried_live : (q' : ReadyQueue)
-        → ((g' : CodeRun) (x : Entries (Local ℕ)) (u : rust.World) → IsKnown g' x n a u q → IsNoted g' x n a q')
+        → ((g' : CodeRun) (x : Entries (Local ℕ)) (u : rust.World) → IsKnown g' x n a u q → CoversAfter g' x n a q')
         → IsStill a q q' → (k : Made) → k ≡ made_of v' a → HasTried g w n k q q'
     tried_live q' noted still k from =
         let x = entries in

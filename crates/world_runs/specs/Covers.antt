@@ -3,7 +3,7 @@
 --   Covers       each revision of the world is covered
 --   CoversBut    each but this one
 --   IsKnown      a leg of this one came out so, and each other is covered
---   IsNoted      each is, once that is noted
+--   CoversAfter  each is, once that is noted
 --   IsStill      where there was no leg, nothing was entered
 use Rattle.std.specs.Prelude.{ℕ, ◌≡◌, ◌≢◌, length, Some}
 use Rattle.revision_machine.specs.Numbered as numbers
@@ -49,11 +49,11 @@ pub record IsKnown (g : CodeRun) (w : Entries (Local ℕ)) (n : ℕ) (a : LegAns
   pub but : CoversBut g w q n
 
 -- all of the world after the leg are covered, or of this one where there was none
-abbrev pub IsNoted : CodeRun → Entries (Local ℕ) → ℕ → LegAnswer → ReadyQueue → Type 0
-IsNoted g w n (answer.Waits on) q = Covers g w q
-IsNoted g w n answer.NoSuch q = Covers g w q
-IsNoted g w n answer.Over q = Covers g w q
-IsNoted g w n _ q =
+abbrev pub CoversAfter : CodeRun → Entries (Local ℕ) → ℕ → LegAnswer → ReadyQueue → Type 0
+CoversAfter g w n (answer.Waits on) q = Covers g w q
+CoversAfter g w n answer.NoSuch q = Covers g w q
+CoversAfter g w n answer.Over q = Covers g w q
+CoversAfter g w n _ q =
     (u : World (Local ℕ)) → numbers.leg (numbered g) (Listing w) n ≡ Some u → CoversWorld g u q
 
 -- where there was no leg, nothing was entered

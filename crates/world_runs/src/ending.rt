@@ -12,9 +12,9 @@ ghost use Rattle.code_world.specs.LegOutcomes.{run_under};
 ghost use Rattle.world_runs.specs.Covers.{CoversWorld, CoversWorldBut};
 ghost use Rattle.world_runs.specs.KeptByLegs.{HasFinishedKeeping, HasLeastKeeping, HasTriedKeeping};
 
+use crate::after_leg::note;
 use crate::legs::Legs;
 use crate::made::{Made, sort_out};
-use crate::notes::note;
 use crate::queue::ReadyQueue;
 use code_world::{CodeSetting, World};
 use std::alloc::{AllocError, Global};

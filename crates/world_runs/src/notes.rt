@@ -1,72 +1,123 @@
-//! What a leg leaves ready, and what waits.
+//! What is noted of a leg.
 
-ghost use Rattle.std.specs.Prelude.{◌≡◌, ◌+◌, ℕ, OnOk, length};
+ghost use Rattle.std.specs.Prelude.{◌≡◌, ◌<◌, ℕ, IfOk, OnOk, length};
 ghost use Rattle.code_machine.specs.Local.{CodeRun, Local};
 ghost use Rattle.code_world.specs.declared.world.World as rust;
-ghost use Rattle.revision_machine.specs.Numbered.{Entries};
-ghost use Rattle.world_runs.specs.Covers.{IsKnown, IsNoted, IsStill};
-ghost use Rattle.world_runs.specs.Queue.{HasReady, KeepsAll};
+ghost use Rattle.code_world.specs.Answers.{LegAnswers};
+ghost use Rattle.revision_machine.specs.Numbered.{World as DefinedWorld};
+ghost use Rattle.world_runs.specs.Changes.{HasAdded, HasEnd, HasNoted, IsBorn, IsChanged};
+ghost use Rattle.world_runs.specs.Changes.{IsEndIn, IsOverNow};
+ghost use Rattle.world_runs.specs.Notes.{NotesOf};
 
-use crate::queue::ReadyQueue;
-use code_world::LegAnswer;
+use crate::noted::Noted;
+use code_world::{LegAnswer, NotedLeg, World};
+use leg_run::Meeting;
 use std::alloc::{AllocError, Global};
+use version_map::EndValue;
 
-/// Notes how the leg of a revision came out.
-pub(crate) fn note(
-    alloc: Global,
-    queue: &mut ReadyQueue,
-    number: u32,
-    answer: LegAnswer,
+/// Adds an entry to the list of a revision, where there is one.
+fn add_meeting(
+    notes: &mut Vec<Noted>,
+    number: usize,
+    meeting: Option<Meeting>,
 ) -> Result<(), AllocError>
-    requires { (g : CodeRun) × (w : Entries (Local ℕ)) × (v : rust.World)
-        × IsKnown g w number answer v queue.old }
-    ensures noted { (g : CodeRun) (w : Entries (Local ℕ)) (v : rust.World)
-        → IsKnown g w number answer v queue.old
-        → OnOk result (IsNoted g w number answer queue.new) }
-    ensures still { OnOk result (IsStill answer queue.old queue.new) }
+    requires { number < length notes.old.items }
+    ensures { OnOk result
+        (IsChanged number (HasAdded meeting) notes.old.items notes.new.items) }
 {
-    match answer {
-        LegAnswer::Forked { child } => {
-            note_fork(alloc, queue, number, child)?;
+    notes[number].add(meeting)?;
+    Ok(())
+}
+
+/// Notes what a revision left.
+fn set_end(notes: &mut Vec<Noted>, number: usize, end: Option<EndValue>)
+    requires { number < length notes.old.items }
+    ensures { (v : rust.World) → IsEndIn v number end
+        → IsChanged number (HasEnd v number) notes.old.items notes.new.items }
+{
+    notes[number].end_with(end);
+}
+
+/// A copy of what the revision of this number left, where it has ended.
+fn end_copied(alloc: Global, world: &World, number: u32) -> Result<Option<EndValue>, AllocError>
+    ensures { IfOk result (λ o. IsEndIn world.now number o) }
+{
+    match world.end_of(number) {
+        Some(end) => {
+            let copy = end.copied(alloc)?;
+            Ok(Some(copy))
+        },
+        None => Ok(None),
+    }
+}
+
+/// Notes of a revision that has ended in this world, and the entry of its last join, where that
+/// ended it.
+fn note_end(
+    alloc: Global,
+    notes: &mut Vec<Noted>,
+    world: &World,
+    number: u32,
+    meeting: Option<Meeting>,
+) -> Result<(), AllocError>
+    requires { number < length notes.old.items }
+    ensures { OnOk result
+        (IsOverNow world.now number meeting notes.old.items notes.new.items) }
+{
+    add_meeting(notes, number as usize, meeting)?;
+    let end = end_copied(alloc, world, number)?;
+    set_end(notes, number as usize, end);
+    Ok(())
+}
+
+/// Notes of a fork, of which the child comes last.
+fn note_fork(
+    alloc: Global,
+    notes: &mut Vec<Noted>,
+    number: u32,
+    meeting: Option<Meeting>,
+) -> Result<(), AllocError>
+    requires { number < length notes.old.items }
+    ensures { OnOk result (IsBorn number meeting notes.old.items notes.new.items) }
+{
+    add_meeting(notes, number as usize, meeting)?;
+    notes.push(Noted::new(alloc))?;
+    Ok(())
+}
+
+/// Notes of a leg of this revision that came out so, in the world after it.
+pub(crate) fn note_leg(
+    alloc: Global,
+    notes: &mut Vec<Noted>,
+    world: &World,
+    number: u32,
+    leg: NotedLeg,
+) -> Result<(), AllocError>
+    requires { (g : CodeRun) × (w : DefinedWorld (Local ℕ))
+        × LegAnswers g w number leg.answer world.now × NotesOf g w notes.old.items }
+    ensures { OnOk result
+        (HasNoted world.now number leg.answer leg.meeting notes.old.items notes.new.items) }
+{
+    match leg.answer {
+        LegAnswer::Forked { child: _child } => {
+            note_fork(alloc, notes, number, leg.meeting)?;
             Ok(())
         },
         LegAnswer::Joined { on: _on } => {
-            queue.enter(number)?;
+            add_meeting(notes, number as usize, leg.meeting)?;
             Ok(())
         },
         LegAnswer::Ended => {
-            queue.wake(alloc, number)?;
+            note_end(alloc, notes, world, number, leg.meeting)?;
             Ok(())
         },
         LegAnswer::Trapped => {
-            queue.wake(alloc, number)?;
+            note_end(alloc, notes, world, number, leg.meeting)?;
             Ok(())
         },
-        LegAnswer::Waits { on } => {
-            queue.wait(number, on)?;
-            Ok(())
-        },
+        LegAnswer::Waits { on: _other } => Ok(()),
         LegAnswer::Twice => Ok(()),
         LegAnswer::NoSuch => Ok(()),
         LegAnswer::Over => Ok(()),
     }
-}
-
-/// Notes a fork: the forker and the child are ready.
-fn note_fork(
-    alloc: Global,
-    queue: &mut ReadyQueue,
-    number: u32,
-    child: u32,
-) -> Result<(), AllocError>
-    ensures forker { OnOk result (HasReady queue.new number) }
-    ensures child { OnOk result (HasReady queue.new child) }
-    ensures kept { OnOk result (KeepsAll queue.old queue.new) }
-    ensures count { OnOk result
-        (length queue.new.waiters.items ≡ length queue.old.waiters.items + 1) }
-{
-    queue.grow(alloc)?;
-    queue.enter(number)?;
-    queue.enter(child)?;
-    Ok(())
 }

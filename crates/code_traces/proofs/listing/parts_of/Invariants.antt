@@ -5,7 +5,7 @@ use Rattle.revision_machine.specs.Numbered.{Entries, paths_of}
 use Rattle.code_machine.specs.Local.{Local}
 use Rattle.code_world.specs.Endings.{Names}
 use Rattle.rev_vm.specs.Starts.{run_under}
-use Rattle.world_notes.specs.Notes.{AreNoted}
+use Rattle.world_runs.specs.Notes.{AreNoted}
 use Rattle.code_traces.specs.NotedParts.{AreOver, world_parts}
 use Rattle.std.specs.Prelude.{ℕ}
 use Rattle.code_traces.proofs.listing.parts_of.Given as goal
