@@ -1,7 +1,7 @@
 -- Whether something is found at or before a place and a number.
 use Rattle.std.proofs.Common.{◌≡◌, ◌∙◌, ℕ, Bool, true, false, cond, ◌&&◌, ◌||◌, Some, None, List, [], ◌∷◌, ◌++◌, refl, sym, ap, arith}
 use Rattle.std.proofs.lemmas.Bool.Decides.{nat_tests}
-use Rattle.merge_decl.specs.Least.{is_less, precedes}
+use Rattle.typed_programs.specs.Least.{is_less, precedes}
 use Rattle.affine_check.specs.declared.fault.AffineFault.{AffineFault}
 use Rattle.affine_check.specs.Faults.{place, rank}
 use Rattle.affine_check.specs.Walk.{Fault, both, when}

@@ -3,9 +3,9 @@ use Rattle.std.proofs.Common.{◌≡◌, ◌∙◌, ℕ, ◌+◌, ◌≤◌, Boo
 use Rattle.rev_num.specs.Path.{Path}
 use Rattle.rev_num.specs.declared.value.Value.{Value}
 use Rattle.rev_syntax.proofs.Lists.{same-self}
-use Rattle.merge_decl.specs.Names.{Name, same}
-use Rattle.merge_decl.specs.Table.{Table, find}
-use Rattle.merge_decl.proofs.Tables.{same_equal}
+use Rattle.name_tables.specs.Names.{Name, same}
+use Rattle.name_tables.specs.Table.{Table, find}
+use Rattle.name_tables.proofs.Tables.{same_equal}
 use Rattle.revision_calculus.specs.Evaluation.{with_local}
 use Rattle.revision_calculus.specs.Step.{locals_of}
 use Rattle.affine_check.specs.Live.{or, without}

@@ -4,17 +4,17 @@ use Rattle.std.proofs.lemmas.Bool.Decides.{nat_tests}
 use Rattle.rev_num.specs.declared.value.ValueKind.{ValueKind}
 use Rattle.rev_num.specs.declared.value.ValueKind.TheVariants as k
 use Rattle.rev_syntax.specs.Trees.{PlacedName, Parameter, RightSide, Statement, statement, bind, assign, assign_cell, choose, choose_or, repeat, call, return, fork, join, print, assert, Statements, no_statements, statements, Arms, no_arms, arm, Declaration, fun, merge, shared, proc, ProgramTree}
-use Rattle.merge_decl.specs.Least.{is_less, Among}
-use Rattle.merge_decl.specs.Names.{Name}
-use Rattle.merge_decl.specs.Table.{find, added}
-use Rattle.rev_kinds.specs.Kinds.{Names, Locals}
+use Rattle.typed_programs.specs.Least.{is_less, Among}
+use Rattle.name_tables.specs.Names.{Name}
+use Rattle.name_tables.specs.Table.{find, added}
+use Rattle.typed_programs.specs.Kinds.{Names, Locals}
 use Rattle.rev_kinds.specs.declared.names.Checker as held_checker
 use Rattle.rev_kinds.specs.Walk.{names_of}
 use Rattle.rev_types.specs.Tables.{shared_table, proc_table, fun_table, callees}
 use Rattle.rev_types.proofs.Named.{outer_names}
-use Rattle.rev_types.specs.Judgement.{StatementTyped, StatementsTyped, ArmsTyped, DeclarationsTyped, ProgramTyped}
-use Rattle.rev_types.specs.Scopes.{locals_after, outside, within, with_params, bound}
-use Rattle.rev_types.proofs.Scopes.{statement_scope}
+use Rattle.typed_programs.specs.Judgement.{StatementTyped, StatementsTyped, ArmsTyped, DeclarationsTyped, ProgramTyped}
+use Rattle.typed_programs.specs.Scopes.{locals_after, outside, within, with_params, bound}
+use Rattle.typed_programs.proofs.Scopes.{statement_scope}
 use Rattle.affine_check.specs.Affine.{Breach, copied, stored, used_twice, in_loop, number, Breaks, IsAffine, IsFirstBroken}
 use Rattle.affine_check.specs.Live.{statement_passes}
 use Rattle.affine_check.specs.SecondUses.{ahead, twice, statement_twice, arms_twice}

@@ -3,10 +3,10 @@ use Rattle.std.proofs.Common.{◌≡◌, ◌∙◌, ℕ, Bool, true, false, cond
 use Rattle.rev_num.specs.declared.value.ValueKind.{ValueKind}
 use Rattle.rev_num.specs.declared.value.ValueKind.TheVariants as k
 use Rattle.rev_syntax.specs.Trees.{PlacedName, Expression, placed, ExpressionForm, int, bool, no_rev, var, cell, apply, input, inputs, pick, unary, chain, Expressions, no_expressions, expression, Links, no_links, link, RightSide, plain, called, forked, tried, PrintItem, text, shown, Statement, statement, StatementForm, bind, assign, assign_cell, choose, choose_or, repeat, call, return, fork, join, print, assert, Statements, no_statements, statements, Arms, no_arms, arm}
-use Rattle.merge_decl.specs.Table.{find}
-use Rattle.rev_kinds.specs.declared.names.Holder.{Holder}
-use Rattle.rev_kinds.specs.Kinds.{Names, Locals}
-use Rattle.rev_types.specs.Scopes.{locals_after, bound}
+use Rattle.name_tables.specs.Table.{find}
+use Rattle.typed_programs.specs.declared.names.Holder.{Holder}
+use Rattle.typed_programs.specs.Kinds.{Names, Locals}
+use Rattle.typed_programs.specs.Scopes.{locals_after, bound}
 use Rattle.affine_check.specs.Live.{statement_passes}
 use Rattle.affine_check.specs.SecondUses.{if_rev}
 use Rattle.affine_check.specs.Places.{if_stores, names_in, expression_form_names, expressions_names, links_names, pick_names, expression_form_pick_names, expressions_pick_names, links_pick_names, right_side_copies, items_copies, value_copies, copies, statement_copies, statement_form_copies, arms_copies, name_stores, stores, statement_stores, statement_form_stores, arms_stores}

@@ -4,8 +4,8 @@ use Rattle.rev_num.specs.Path.{Path, child}
 use Rattle.rev_num.specs.Path as path
 use Rattle.rev_num.specs.declared.value.Value.{Value}
 use Rattle.rev_num.specs.declared.value.Value.TheVariants as v
-use Rattle.merge_decl.specs.Names.{Name}
-use Rattle.merge_decl.specs.Table.{Table}
+use Rattle.name_tables.specs.Names.{Name}
+use Rattle.name_tables.specs.Table.{Table}
 use Rattle.revision_machine.specs.Machine.{Moves, Forks, Joins, Machine, Entry, Plain, Joined, Global, Twice, Live, nowhere, start, step, Runs, Reached}
 use Rattle.revision_machine.specs.PathMap.{with_at}
 use Rattle.revision_machine.specs.Laws.{local_of, Everywhere, IsForked, IsOrdered}
@@ -17,7 +17,7 @@ use Rattle.revision_machine.proofs.Diamond.{two_here, two_there, two_other}
 use Rattle.revision_machine.proofs.Ends.{along, reached_forked}
 use Rattle.revision_machine.proofs.KeptByEvents.{kept_law}
 use Rattle.revision_machine.proofs.Blocked.{handle_law}
-use Rattle.rev_types.specs.Judgement.{ProgramTyped}
+use Rattle.typed_programs.specs.Judgement.{ProgramTyped}
 use Rattle.revision_calculus.specs.Program.{Setting}
 use Rattle.revision_calculus.specs.State.{Frame, Phase, running, joining, done, trapped, Local}
 use Rattle.revision_calculus.specs.Step.{next}

@@ -7,15 +7,15 @@ use Rattle.rev_num.specs.declared.value.ValueKind.{ValueKind}
 use Rattle.rev_num.specs.declared.value.ValueKind.TheVariants as k
 use Rattle.rev_syntax.specs.Trees.{Parameter, Expression, placed, int, bool, no_rev, var, cell, apply, input, inputs, pick, unary, chain, Expressions, no_expressions, expression, RightSide, plain, called, forked, tried, Statement, statement, StatementForm, bind, assign, assign_cell, choose, choose_or, repeat, call, return, fork, join, print, assert, Statements, no_statements, statements, Arms, no_arms, arm}
 use Rattle.rev_syntax.proofs.Lists.{same-self}
-use Rattle.merge_decl.specs.Names.{Name, same}
-use Rattle.merge_decl.specs.Table.{find, added}
-use Rattle.merge_decl.proofs.Tables.{same_equal, find-added, or_else}
-use Rattle.rev_kinds.specs.declared.names.Holder.{Holder}
-use Rattle.rev_kinds.specs.Kinds.{Names, Locals, right_side_kind}
-use Rattle.rev_kinds.specs.Typing.{HasKind, ScalarHas, ArgsHave}
-use Rattle.rev_types.specs.Judgement.{RightSideHas, ReturnTyped, StatementTyped, StatementFormTyped, StatementsTyped, ArmsTyped}
-use Rattle.rev_types.specs.Scopes.{locals_after, bound}
-use Rattle.rev_types.proofs.Scopes.{statement_scope}
+use Rattle.name_tables.specs.Names.{Name, same}
+use Rattle.name_tables.specs.Table.{find, added}
+use Rattle.name_tables.proofs.Tables.{same_equal, find-added, or_else}
+use Rattle.typed_programs.specs.declared.names.Holder.{Holder}
+use Rattle.typed_programs.specs.Kinds.{Names, Locals, right_side_kind}
+use Rattle.typed_programs.specs.Typing.{HasKind, ScalarHas, ArgsHave}
+use Rattle.typed_programs.specs.Judgement.{RightSideHas, ReturnTyped, StatementTyped, StatementFormTyped, StatementsTyped, ArmsTyped}
+use Rattle.typed_programs.specs.Scopes.{locals_after, bound}
+use Rattle.typed_programs.proofs.Scopes.{statement_scope}
 use Rattle.affine_check.specs.Live.{statement_passes}
 use Rattle.affine_check.specs.SecondUses.{expression_places, expressions_places, right_side_places, value_places, ahead, statement_ahead, statement_form_ahead, arms_ahead, if_rev, expression_twice, expressions_twice, right_side_twice, value_twice, twice, statement_twice, statement_form_twice, arms_twice}
 use Rattle.affine_check.proofs.Meaning.{kept, still_free}

@@ -5,11 +5,11 @@ use Rattle.rev_num.specs.declared.value.ValueKind.{ValueKind}
 use Rattle.rev_num.specs.declared.value.ValueKind.TheVariants as k
 use Rattle.rev_syntax.specs.Trees.{Expression, placed, int, bool, no_rev, var, cell, apply, input, inputs, pick, unary, chain, Expressions, no_expressions, expression, RightSide, plain, called, forked, tried, Statement, statement, StatementForm, bind, assign, assign_cell, choose, choose_or, repeat, call, return, fork, join, print, assert, Statements, no_statements, statements, Arms, no_arms, arm}
 use Rattle.rev_syntax.proofs.Lists.{same-self}
-use Rattle.merge_decl.specs.Names.{Name, same}
-use Rattle.merge_decl.specs.Table.{find}
-use Rattle.merge_decl.proofs.Tables.{same_equal}
-use Rattle.rev_kinds.specs.Kinds.{Names, Locals}
-use Rattle.rev_types.specs.Scopes.{locals_after}
+use Rattle.name_tables.specs.Names.{Name, same}
+use Rattle.name_tables.specs.Table.{find}
+use Rattle.name_tables.proofs.Tables.{same_equal}
+use Rattle.typed_programs.specs.Kinds.{Names, Locals}
+use Rattle.typed_programs.specs.Scopes.{locals_after}
 use Rattle.affine_check.specs.Live.{statement_passes}
 use Rattle.affine_check.specs.SecondUses.{if_rev}
 use Rattle.affine_check.specs.Places.{use_places, uses_places, right_side_use_places, value_use_places, outer_uses, statement_outer_uses, statement_form_outer_uses, arms_outer_uses, loop_uses, statement_loop_uses, statement_form_loop_uses, arms_loop_uses}

@@ -4,11 +4,11 @@ use Rattle.rev_num.specs.Path.{Path}
 use Rattle.rev_num.specs.declared.value.Value.TheVariants as v
 use Rattle.rev_num.specs.declared.value.ValueKind.TheVariants as k
 use Rattle.rev_num.specs.declared.outcome.Trap.{Trap}
-use Rattle.merge_decl.specs.Names.{Name}
+use Rattle.name_tables.specs.Names.{Name}
 use Rattle.revision_machine.specs.Machine.{Forks, Joins, Ended}
 use Rattle.revision_machine.specs.Conditions.{IsKept}
-use Rattle.rev_types.specs.Judgement.{ProgramTyped}
-use Rattle.rev_types.specs.Layout.{variables}
+use Rattle.typed_programs.specs.Judgement.{ProgramTyped}
+use Rattle.typed_programs.specs.Layout.{variables}
 use Rattle.revision_calculus.specs.Program.{Setting}
 use Rattle.revision_calculus.specs.State.{Location, Phase, running, joining, done, trapped, Local}
 use Rattle.revision_calculus.specs.Evaluation.{give}

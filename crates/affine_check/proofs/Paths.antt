@@ -3,12 +3,12 @@ use Rattle.std.proofs.Common.{◌≡◌, ◌∙◌, ◌⊎◌, inl, inr, ℕ, ze
 use Rattle.rev_num.specs.declared.value.ValueKind.{ValueKind}
 use Rattle.std.proofs.lemmas.Bool.{false_from_ne_true as not_true}
 use Rattle.rev_syntax.specs.Trees.{PlacedName, Expression, placed, ExpressionForm, int, bool, no_rev, var, cell, apply, input, inputs, pick, unary, chain, Expressions, no_expressions, expression, RightSide, plain, called, forked, tried, Statement, statement, StatementForm, bind, assign, assign_cell, choose, choose_or, repeat, call, return, fork, join, print, assert, Statements, no_statements, statements, Arms, no_arms, arm, Declaration, fun, merge, shared, proc, ProgramTree}
-use Rattle.merge_decl.specs.Names.{Name, same}
-use Rattle.merge_decl.specs.Table.{find}
-use Rattle.merge_decl.proofs.Tables.{same_equal}
-use Rattle.rev_kinds.specs.Kinds.{Names, Locals}
-use Rattle.rev_types.specs.Scopes.{outside, within, with_params}
-use Rattle.rev_types.specs.Judgement.{StatementTyped, StatementFormTyped, StatementsTyped, ArmsTyped, DeclarationsTyped, ProgramTyped}
+use Rattle.name_tables.specs.Names.{Name, same}
+use Rattle.name_tables.specs.Table.{find}
+use Rattle.name_tables.proofs.Tables.{same_equal}
+use Rattle.typed_programs.specs.Kinds.{Names, Locals}
+use Rattle.typed_programs.specs.Scopes.{outside, within, with_params}
+use Rattle.typed_programs.specs.Judgement.{StatementTyped, StatementFormTyped, StatementsTyped, ArmsTyped, DeclarationsTyped, ProgramTyped}
 use Rattle.affine_check.specs.Live.{or, names_it, among, right_side_uses, without, live, live_statement, live_statement_form, live_arms, passes, statement_passes, statement_form_passes, arms_pass, IsRev, Free, PickFree, PicksFree, NameOnce, UsesOnce, RightSideOnce, NotStored, StatementsOnce, StatementOnce, StatementFormOnce, ArmsOnce}
 use Rattle.affine_check.specs.Owned.{DeclarationsOnce, UsesHandlesOnce}
 use Rattle.affine_check.specs.Affine.{Occurrence, use_of, gets, expression_occurrences, expressions_occurrences, right_side_occurrences, Turns, Through, StatementThrough, StatementFormThrough, ArmsThrough, Inside, StatementInside, StatementFormInside, ArmsInside, NoValue, rev_use, NameIn, PickIn, PicksIn, RightSideCopied, Behind, StatementFormBehind, Copied, StatementCopied, StatementFormCopied, ArmsCopied, StoresAt, Stored, StatementStored, StatementFormStored, ArmsStored, Breach, copied, stored, used_twice, BodyBreaks, DeclarationsBreak, IsAffine}

@@ -3,17 +3,17 @@ use Rattle.std.proofs.Common.{◌≡◌, ◌∙◌, ◌⊎◌, inl, inr, ℕ, Li
 use Rattle.rev_num.specs.declared.value.ValueKind.{ValueKind}
 use Rattle.rev_num.specs.declared.value.ValueKind.TheVariants as k
 use Rattle.rev_syntax.specs.Trees.{PlacedName, Expression, placed, ExpressionForm, int, bool, no_rev, var, cell, apply, input, inputs, pick, unary, chain, Expressions, no_expressions, expression, Links, no_links, link, RightSide, plain, called, forked, tried, PrintItem, text, shown, Statement, statement, StatementForm, bind, assign, assign_cell, choose, choose_or, repeat, call, return, fork, join, print, assert, Statements, no_statements, statements, Arms, no_arms, arm, Declaration, fun, merge, shared, proc, ProgramTree}
-use Rattle.merge_decl.specs.Table.{find, added}
-use Rattle.rev_kinds.specs.declared.names.Holder.{Holder}
-use Rattle.rev_kinds.specs.Kinds.{Names, Locals}
-use Rattle.merge_decl.specs.Least.{Among}
-use Rattle.rev_types.specs.Scopes.{locals_after, outside, with_params, within}
-use Rattle.rev_types.specs.Judgement.{StatementTyped, StatementFormTyped, StatementsTyped, ArmsTyped, DeclarationsTyped, ProgramTyped}
-use Rattle.rev_types.proofs.Scopes.{right_side_is}
+use Rattle.name_tables.specs.Table.{find, added}
+use Rattle.typed_programs.specs.declared.names.Holder.{Holder}
+use Rattle.typed_programs.specs.Kinds.{Names, Locals}
+use Rattle.typed_programs.specs.Least.{Among}
+use Rattle.typed_programs.specs.Scopes.{locals_after, outside, with_params, within}
+use Rattle.typed_programs.specs.Judgement.{StatementTyped, StatementFormTyped, StatementsTyped, ArmsTyped, DeclarationsTyped, ProgramTyped}
+use Rattle.typed_programs.proofs.Scopes.{right_side_is}
 use Rattle.affine_check.specs.Affine.{NameIn, ExpressionFormNameIn, NamesIn, LinksNameIn, PickIn, ExpressionFormPickIn, PicksIn, LinksPickIn, RightSideCopied, ItemsCopied, ValueCopied, Behind, Copied, StatementCopied, StatementFormCopied, ArmsCopied, StoresAt, Stored, StatementStored, StatementFormStored, ArmsStored, UseAt, UsesAt, RightSideUsesAt, ValueUsesAt, OuterUse, StatementOuterUse, StatementFormOuterUse, ArmsOuterUse, InLoop, StatementInLoop, StatementFormInLoop, ArmsInLoop, Breach, copied, stored, used_twice, in_loop, BodyBreaks, DeclarationsBreak, Breaks}
 use Rattle.affine_check.specs.SecondUses.{if_rev}
-use Rattle.merge_decl.proofs.Firsts.{left_among, right_among, among_split}
-use Rattle.merge_decl.proofs.Leasts.{none_is, first_is}
+use Rattle.typed_programs.proofs.Firsts.{left_among, right_among, among_split}
+use Rattle.typed_programs.proofs.Leasts.{none_is, first_is}
 use Rattle.affine_check.specs.Laws.{Decides}
 use Rattle.affine_check.specs.Affine.{Breakage, number, IsAffine}
 use Rattle.affine_check.specs.Places.{at_places, breakages, first_breakage, if_stores, names_in, expression_form_names, expressions_names, links_names, pick_names, expression_form_pick_names, expressions_pick_names, links_pick_names, right_side_copies, items_copies, value_copies, copies, statement_copies, statement_form_copies, arms_copies, stores, statement_stores, statement_form_stores, arms_stores, name_stores, use_places, uses_places, right_side_use_places, value_use_places, outer_uses, statement_outer_uses, statement_form_outer_uses, arms_outer_uses, loop_uses, statement_loop_uses, statement_form_loop_uses, arms_loop_uses, body_places, declarations_places, places}

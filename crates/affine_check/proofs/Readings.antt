@@ -11,13 +11,13 @@ use Rattle.rev_syntax.specs.Trees.{PlacedName, Parameter, Expression, placed, Ex
 use Rattle.rev_syntax.specs.declared.tree.UnaryOp.{UnaryOp}
 use Rattle.rev_syntax.specs.declared.tree.BinaryOp.{BinaryOp}
 use Rattle.rev_syntax.specs.declared.tree.BinaryOp.TheVariants as b
-use Rattle.merge_decl.specs.Names.{Name, same}
-use Rattle.merge_decl.specs.Table.{Table, find}
-use Rattle.merge_decl.specs.FunRules.{count}
-use Rattle.merge_decl.specs.Value.{Answer, and_then, number_of, truth_of, operated, short, linked, reversed, Shared, Env, read_cell, read_input, read, Funs, called, value_by, expression_form_value, values_by, chained}
-use Rattle.rev_kinds.specs.declared.names.Holder.{Holder}
-use Rattle.rev_kinds.specs.Kinds.{Callee, Names, Locals, links_kind}
-use Rattle.rev_kinds.specs.Typing.{ScalarHas, TakesRightSide, HasKind, ExpressionFormHas, ArgsHave, LinksHave}
+use Rattle.name_tables.specs.Names.{Name, same}
+use Rattle.name_tables.specs.Table.{Table, find}
+use Rattle.typed_programs.specs.FunRules.{count}
+use Rattle.typed_programs.specs.Value.{Answer, and_then, number_of, truth_of, operated, short, linked, reversed, Shared, Env, read_cell, read_input, read, Funs, called, value_by, expression_form_value, values_by, chained}
+use Rattle.typed_programs.specs.declared.names.Holder.{Holder}
+use Rattle.typed_programs.specs.Kinds.{Callee, Names, Locals, links_kind}
+use Rattle.typed_programs.specs.Typing.{ScalarHas, TakesRightSide, HasKind, ExpressionFormHas, ArgsHave, LinksHave}
 use Rattle.revision_calculus.specs.HandlesHeld.{IsHandle}
 use Rattle.revision_calculus.proofs.Events.{Any, any_ok}
 use Rattle.revision_calculus.proofs.Values.{OfOk, then_ok, OfOthers, OfEach, OfShared, OfFuns, number_ok, reversed_ok, read_cell_ok, read_input_ok, read_ok, called_ok}

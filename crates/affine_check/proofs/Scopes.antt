@@ -8,16 +8,16 @@ use Rattle.rev_num.specs.declared.value.Value.TheVariants as v
 use Rattle.rev_num.specs.declared.value.ValueKind.{ValueKind}
 use Rattle.rev_num.specs.declared.value.ValueKind.TheVariants as k
 use Rattle.rev_syntax.specs.Trees.{PlacedName, Parameter, statement, Statements, no_statements, statements, Declaration, fun, merge, shared, proc}
-use Rattle.merge_decl.specs.Least.{Among}
-use Rattle.merge_decl.specs.Names.{Name, same}
-use Rattle.merge_decl.specs.Table.{Table, find, added}
-use Rattle.merge_decl.specs.Definitions.{names_of}
-use Rattle.merge_decl.proofs.Tables.{same_equal, or_else, or_else-none, find-added}
-use Rattle.rev_kinds.specs.declared.names.Holder.{Holder}
-use Rattle.rev_kinds.specs.Kinds.{Callee, Names, Locals}
-use Rattle.rev_types.specs.Scopes.{proc_named, with_params, fun_named}
-use Rattle.rev_types.specs.Judgement.{IsNew, ParamsNew, DeclarationsTyped}
-use Rattle.rev_types.specs.Layout.{Procedure, procedures_from}
+use Rattle.typed_programs.specs.Least.{Among}
+use Rattle.name_tables.specs.Names.{Name, same}
+use Rattle.name_tables.specs.Table.{Table, find, added}
+use Rattle.typed_programs.specs.Definitions.{names_of}
+use Rattle.name_tables.proofs.Tables.{same_equal, or_else, or_else-none, find-added}
+use Rattle.typed_programs.specs.declared.names.Holder.{Holder}
+use Rattle.typed_programs.specs.Kinds.{Callee, Names, Locals}
+use Rattle.typed_programs.specs.Scopes.{proc_named, with_params, fun_named}
+use Rattle.typed_programs.specs.Judgement.{IsNew, ParamsNew, DeclarationsTyped}
+use Rattle.typed_programs.specs.Layout.{Procedure, procedures_from}
 use Rattle.revision_calculus.specs.Program.{procedure_named}
 use Rattle.revision_calculus.specs.State.{Frame}
 use Rattle.revision_calculus.specs.Evaluation.{with_local}

@@ -4,14 +4,14 @@ use Rattle.std.specs.Prelude.{if◌then◌else◌}
 use Rattle.rev_num.specs.declared.value.ValueKind.{ValueKind}
 use Rattle.rev_num.specs.declared.value.ValueKind.TheVariants as k
 use Rattle.rev_syntax.specs.Trees.{PlacedName, Expression, placed, int, bool, no_rev, var, cell, apply, input, inputs, pick, unary, chain, Expressions, no_expressions, expression, RightSide, plain, called, forked, tried, Statement, statement, StatementForm, bind, assign, assign_cell, choose, choose_or, repeat, call, return, fork, join, print, assert, Statements, no_statements, statements, Arms, no_arms, arm}
-use Rattle.merge_decl.specs.Least.{Among}
-use Rattle.merge_decl.specs.Names.{Name, same}
-use Rattle.merge_decl.specs.Table.{find}
-use Rattle.merge_decl.proofs.Tables.{same_equal}
-use Rattle.merge_decl.proofs.Firsts.{among_split}
-use Rattle.rev_kinds.specs.Kinds.{Names, Locals}
-use Rattle.rev_types.specs.Scopes.{locals_after}
-use Rattle.rev_types.specs.Judgement.{StatementTyped, StatementFormTyped, StatementsTyped, ArmsTyped}
+use Rattle.typed_programs.specs.Least.{Among}
+use Rattle.name_tables.specs.Names.{Name, same}
+use Rattle.name_tables.specs.Table.{find}
+use Rattle.name_tables.proofs.Tables.{same_equal}
+use Rattle.typed_programs.proofs.Firsts.{among_split}
+use Rattle.typed_programs.specs.Kinds.{Names, Locals}
+use Rattle.typed_programs.specs.Scopes.{locals_after}
+use Rattle.typed_programs.specs.Judgement.{StatementTyped, StatementFormTyped, StatementsTyped, ArmsTyped}
 use Rattle.affine_check.specs.Live.{statement_passes}
 use Rattle.affine_check.specs.Affine.{Occurrence, use_of, gets, expression_occurrences, expressions_occurrences, right_side_occurrences, Turns, Through, StatementThrough, StatementFormThrough, ArmsThrough, Inside, StatementInside, StatementFormInside, ArmsInside, NoValue, UsedTwice}
 use Rattle.affine_check.specs.SecondUses.{expression_places, expressions_places, right_side_places, ahead, statement_ahead, statement_form_ahead, arms_ahead, if_rev, expression_twice, expressions_twice, right_side_twice, twice, statement_twice, statement_form_twice, arms_twice}

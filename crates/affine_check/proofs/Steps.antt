@@ -12,17 +12,17 @@ use Rattle.rev_num.specs.declared.outcome.Cause.TheVariants as cause
 use Rattle.rev_syntax.specs.Trees.{PlacedName, Expression, placed, int, bool, no_rev, var, cell, apply, input, inputs, pick, unary, chain, Expressions, RightSide, plain, called, tried, Statement, statement, bind, assign, assign_cell, choose, choose_or, repeat, call, return, fork, join, print, assert, Statements, no_statements, statements, Arms, no_arms, arm}
 use Rattle.rev_syntax.specs.Trees as t
 use Rattle.revision_machine.specs.Machine.{Event, Moves, Forks, Joins, Ended}
-use Rattle.merge_decl.specs.Names.{Name}
-use Rattle.merge_decl.specs.Table.{find, added}
-use Rattle.merge_decl.specs.Value.{and_then, truth_of, number_of, scalar, array, funs_of}
-use Rattle.merge_decl.specs.Definitions.{funs_in}
-use Rattle.rev_kinds.specs.declared.names.Holder.{Holder}
-use Rattle.rev_kinds.specs.Kinds.{Callee, Locals}
-use Rattle.rev_kinds.specs.Typing.{ScalarHas, ArrayHas, HasKind}
-use Rattle.rev_types.proofs.Returning.{none_end}
-use Rattle.rev_types.specs.Scopes.{within, shared_named, proc_named, with_params}
-use Rattle.rev_types.specs.Judgement.{CallTyped, RightSideHas, ReturnTyped, StatementTyped, Returns, ProgramTyped}
-use Rattle.rev_types.specs.Layout.{SharedVariable, variables, procedures, Procedure}
+use Rattle.name_tables.specs.Names.{Name}
+use Rattle.name_tables.specs.Table.{find, added}
+use Rattle.typed_programs.specs.Value.{and_then, truth_of, number_of, scalar, array, funs_of}
+use Rattle.typed_programs.specs.Definitions.{funs_in}
+use Rattle.typed_programs.specs.declared.names.Holder.{Holder}
+use Rattle.typed_programs.specs.Kinds.{Callee, Locals}
+use Rattle.typed_programs.specs.Typing.{ScalarHas, ArrayHas, HasKind}
+use Rattle.typed_programs.proofs.Returning.{none_end}
+use Rattle.typed_programs.specs.Scopes.{within, shared_named, proc_named, with_params}
+use Rattle.typed_programs.specs.Judgement.{CallTyped, RightSideHas, ReturnTyped, StatementTyped, Returns, ProgramTyped}
+use Rattle.typed_programs.specs.Layout.{SharedVariable, variables, procedures, Procedure}
 use Rattle.revision_calculus.specs.Program.{variable_named, procedure_named, Setting}
 use Rattle.revision_calculus.specs.State.{Location, view_at, write_at, Frame, Phase, running, joining, done, trapped, Local}
 use Rattle.revision_calculus.specs.Evaluation.{read_shared, env, eval, evals, set_named, set, give, cell_location}

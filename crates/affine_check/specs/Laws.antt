@@ -8,9 +8,9 @@ use Rattle.std.specs.Prelude.{◌≡◌, ◌≢◌, ℕ, List, [], ◌∷◌, Op
 use Rattle.rev_num.specs.Path.{Path}
 use Rattle.rev_num.specs.declared.value.ValueKind.TheVariants as k
 use Rattle.rev_syntax.specs.Trees.{Declaration, fun, merge, shared, proc, Statements, ProgramTree}
-use Rattle.merge_decl.specs.Least.{Among}
-use Rattle.rev_kinds.specs.Kinds.{Names, Locals}
-use Rattle.rev_types.specs.Scopes.{outside, with_params}
+use Rattle.typed_programs.specs.Least.{Among}
+use Rattle.typed_programs.specs.Kinds.{Names, Locals}
+use Rattle.typed_programs.specs.Scopes.{outside, with_params}
 use Rattle.revision_machine.specs.Machine.{Entry, Global, Live, Reached, Twice}
 use Rattle.revision_machine.specs.Laws.{local_of}
 use Rattle.revision_calculus.specs.Program.{Setting}

@@ -5,9 +5,9 @@ ghost use Rattle.std.specs.Prelude.{OnOk};
 ghost use Rattle.rev_syntax.specs.View.{arms, block, declaration};
 ghost use Rattle.rev_syntax.specs.View.{parameter, placed_name, program as whole, right_side};
 ghost use Rattle.rev_syntax.specs.View.{statement_form, stmt, stmts};
-ghost use Rattle.merge_decl.specs.Table.{find};
+ghost use Rattle.name_tables.specs.Table.{find};
 ghost use Rattle.rev_kinds.specs.Walk.{names_of};
-ghost use Rattle.rev_types.specs.Scopes as scopes;
+ghost use Rattle.typed_programs.specs.Scopes as scopes;
 ghost use Rattle.revision_calculus.specs.Program.{Setting};
 ghost use Rattle.affine_check.specs.Affine.{IsAffine};
 ghost use Rattle.affine_check.specs.Laws.{NeverTwice};
@@ -18,12 +18,13 @@ ghost use Rattle.affine_check.specs.Walk as rule;
 use crate::copies::{copied, copied_args, copied_items, copied_right, copied_value, is_handle};
 use crate::fault::{AffineFault, first};
 use crate::trail::{Trail, statements};
-use merge_decl::NameTable;
+use name_tables::NameTable;
 use rev_kinds::{Checker, Locals};
 use rev_num::{ValueKind, same_kind};
 use rev_syntax::{Arm, Block, Decl, Form, Name, Param, Program, Rhs, Stmt};
-use rev_types::{Typed, name_tables};
+use rev_types::name_tables;
 use std::alloc::{AllocError, Global};
+use typed_programs::Typed;
 
 /// Where the walk is: the locals in scope, and whether some path comes here.
 #[derive(Drop)]

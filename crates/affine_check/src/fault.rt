@@ -1,7 +1,7 @@
 //! How a program breaks the affine rule.
 
 ghost use Rattle.std.specs.Prelude.{◌≡◌};
-ghost use Rattle.merge_decl.specs.Least.{first_of, is_less};
+ghost use Rattle.typed_programs.specs.Least.{first_of, is_less};
 ghost use Rattle.affine_check.specs.Faults as rule;
 ghost use Rattle.affine_check.specs.declared.fault.AffineFault.TheVariants.{OutOfMemory};
 

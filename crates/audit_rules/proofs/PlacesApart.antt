@@ -11,13 +11,13 @@ use Rattle.rev_syntax.specs.Bytes.{is_digit, is_letter, is_name_byte, is_word}
 use Rattle.rev_syntax.specs.Words.{is_name, is_reserved}
 use Rattle.rev_syntax.specs.Trees.{ArraySize, SharedDeclaration, Declaration, fun, merge, shared, proc}
 use Rattle.rev_syntax.specs.Small.{name_formed, by_formed, size_formed, first_formed, parameter_formed, expression_small, statements_small, declaration_small}
-use Rattle.merge_decl.specs.Names.{Name}
-use Rattle.merge_decl.specs.Least.{Among}
-use Rattle.merge_decl.proofs.Firsts.{among_split}
-use Rattle.rev_kinds.specs.Kinds.{Names}
-use Rattle.rev_types.specs.Scopes.{cells_of, outside, within}
-use Rattle.rev_types.specs.Layout.{SharedVariable, variable_behind, variables_behind, variables}
-use Rattle.rev_types.specs.Judgement.{name_of, DeclarationTyped, DeclarationsTyped}
+use Rattle.name_tables.specs.Names.{Name}
+use Rattle.typed_programs.specs.Least.{Among}
+use Rattle.typed_programs.proofs.Firsts.{among_split}
+use Rattle.typed_programs.specs.Kinds.{Names}
+use Rattle.typed_programs.specs.Scopes.{cells_of, outside, within}
+use Rattle.typed_programs.specs.Layout.{SharedVariable, variable_behind, variables_behind, variables}
+use Rattle.typed_programs.specs.Judgement.{name_of, DeclarationTyped, DeclarationsTyped}
 use Rattle.revision_machine.proofs.Paths.{apart-same}
 use Rattle.revision_calculus.specs.Program.{Setting}
 use Rattle.revision_calculus.specs.State.{Location}

@@ -9,8 +9,8 @@ use Rattle.rev_num.specs.declared.value.ValueKind.{ValueKind}
 use Rattle.rev_num.specs.declared.outcome.Cause.{Cause}
 use Rattle.rev_num.specs.declared.outcome.Cause.TheVariants as cause
 use Rattle.rev_num.specs.declared.outcome.Trap.{Trap}
-use Rattle.merge_decl.specs.Names.{Name, same}
-use Rattle.merge_decl.specs.Least.{Among}
+use Rattle.name_tables.specs.Names.{Name, same}
+use Rattle.typed_programs.specs.Least.{Among}
 use Rattle.rev_num.proofs.PostOrder.{same_refl, same-eq}
 use Rattle.rev_num.proofs.SameKinds.{same_kind_self, same_kind_is}
 use Rattle.revision_calculus.specs.Program.{Setting}

@@ -2,7 +2,7 @@
 use Rattle.std.proofs.Common.{◌≡◌, ◌≢◌, ◌⊎◌, inl, inr, ℕ, ◌+◌, Bool, true, false, cond, List, [], ◌∷◌, Option, Some, None, refl, sym, ap, ◌∙◌, subst}
 use Rattle.std.proofs.lemmas.Bool.{true≢false}
 use Rattle.rev_num.specs.Path.{Path, same, before}
-use Rattle.merge_decl.specs.Least.{Among}
+use Rattle.typed_programs.specs.Least.{Among}
 use Rattle.revision_machine.specs.PathMap.{PathMap}
 use Rattle.revision_machine.specs.Machine.{Entry, Global, Twice, Live}
 use Rattle.revision_machine.specs.Laws.{local_of, IsIn}

@@ -1,7 +1,7 @@
 -- Verdicts as values.
 use Rattle.std.proofs.Common.{◌≡◌, ◌⊎◌, inl, inr, true, List, [], ◌∷◌, refl, sym, ap, ◌∙◌, subst}
 use Rattle.rev_num.specs.Path.{Path, before}
-use Rattle.merge_decl.specs.Least.{Among}
+use Rattle.typed_programs.specs.Least.{Among}
 use Rattle.rev_num.proofs.PostOrder.{before_trans}
 use Rattle.trace_diagram.specs.Traces.{MainIsLast}
 use Rattle.trace_diagram.specs.declared.diagram.Part.{Part}

@@ -7,9 +7,9 @@ use Rattle.rev_num.specs.declared.value.ValueKind.{ValueKind}
 use Rattle.rev_num.specs.declared.outcome.Cause.{Cause}
 use Rattle.rev_num.specs.declared.outcome.Cause.TheVariants as cause
 use Rattle.rev_num.specs.declared.outcome.Trap.{Trap}
-use Rattle.merge_decl.specs.Names.{same}
+use Rattle.name_tables.specs.Names.{same}
 use Rattle.revision_machine.specs.PathMap.{PathMap}
-use Rattle.rev_types.specs.Layout.{variables}
+use Rattle.typed_programs.specs.Layout.{variables}
 use Rattle.revision_calculus.specs.Program.{zero_value, Setting}
 use Rattle.rev_report.specs.Outcome.{place_of}
 use Rattle.revision_calculus.specs.State.{Location, Noted, forked, joined, Phase, running, joining, done, trapped, Local}

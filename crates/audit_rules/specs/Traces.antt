@@ -1,7 +1,7 @@
 -- Traces as lists of parts, and what an audit's verdict says of them.
 use Rattle.std.specs.Prelude.{◌≡◌, ◌⊎◌, ℕ, true, List, [], ◌∷◌, map, Option, Some, None, if◌then◌else◌}
 use Rattle.rev_num.specs.Path.{Path, same, before}
-use Rattle.merge_decl.specs.Least.{Among}
+use Rattle.typed_programs.specs.Least.{Among}
 use Rattle.revision_machine.specs.Machine.{Entry, Global, Twice, Live, Complete}
 use Rattle.revision_machine.specs.Laws.{local_of}
 use Rattle.revision_calculus.specs.Program.{Setting}

@@ -3,8 +3,9 @@
 use merge_decl::expand_funs;
 use rev_parse::parse;
 use rev_syntax::tokens;
-use rev_types::{Typed, check};
+use rev_types::check;
 use std::alloc::Global;
+use typed_programs::Typed;
 
 /// The longest text of a program, in bytes.
 pub const MEGABYTE: usize = 1_048_576;

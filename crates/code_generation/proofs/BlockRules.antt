@@ -4,10 +4,10 @@ use Rattle.std.specs.Prelude.{nat_le, if◌then◌else◌}
 use Rattle.std.specs.List.{list_all}
 use Rattle.std.proofs.lemmas.Bool.Decides.{nat_tests}
 use Rattle.rev_syntax.specs.Trees.{Parameter, Statements, Declaration, fun, merge, shared, proc, ProgramTree}
-use Rattle.rev_kinds.specs.Kinds.{Names}
-use Rattle.rev_types.specs.Limits.{procs, funs}
-use Rattle.rev_types.specs.Scopes as scopes
-use Rattle.rev_types.specs.Scopes.{outside}
+use Rattle.typed_programs.specs.Kinds.{Names}
+use Rattle.typed_programs.specs.Limits.{procs, funs}
+use Rattle.typed_programs.specs.Scopes as scopes
+use Rattle.typed_programs.specs.Scopes.{outside}
 use Rattle.rev_code.specs.declared.code.CodeBlock.{CodeBlock}
 use Rattle.rev_code.specs.declared.code.BlockClass.{BlockClass}
 use Rattle.rev_code.specs.Step.{is_procedure}

@@ -5,8 +5,8 @@ use Rattle.std.proofs.lemmas.Bool.Decides.{nat_tests}
 use Rattle.rev_num.specs.declared.value.ValueKind.{ValueKind}
 use Rattle.rev_num.specs.declared.value.ValueKind.TheVariants as k
 use Rattle.rev_syntax.specs.Trees.{PlacedName, Parameter, Expression, statement, Statements, no_statements, statements, Declaration, fun, merge, shared, proc, ProgramTree}
-use Rattle.rev_kinds.specs.Kinds.{Names}
-use Rattle.rev_types.specs.Scopes.{outside}
+use Rattle.typed_programs.specs.Kinds.{Names}
+use Rattle.typed_programs.specs.Scopes.{outside}
 use Rattle.rev_code.specs.declared.code.Instr.{Instr}
 use Rattle.rev_code.specs.declared.code.Instr.TheVariants as i
 use Rattle.rev_code.specs.declared.code.CodeBlock.{CodeBlock}

@@ -3,9 +3,9 @@ use Rattle.std.proofs.Common.{◌≡◌, ℕ, ◌+◌, Bool, true, false, Option
 use Rattle.rev_syntax.specs.Trees.{Expression, placed, ExpressionForm, Expressions, Links, int, bool, no_rev, var, cell, apply, input, inputs, pick, unary, chain, no_expressions, expression, no_links, link, RightSide, plain, called, forked, tried, PrintItem, text, shown, Statement, statement, StatementForm, bind, assign, assign_cell, choose, choose_or, repeat, call, return, fork, join, print, assert, Statements, no_statements, statements, Arms, no_arms, arm}
 use Rattle.rev_syntax.specs.declared.tree.BinaryOp.{BinaryOp}
 use Rattle.rev_syntax.specs.declared.tree.BinaryOp.TheVariants as b
-use Rattle.rev_kinds.specs.Kinds.{Names, Locals}
-use Rattle.rev_types.specs.Scopes.{locals_after}
-use Rattle.rev_types.specs.Limits.{statement_lets, statement_form_lets, statements_lets, arms_lets}
+use Rattle.typed_programs.specs.Kinds.{Names, Locals}
+use Rattle.typed_programs.specs.Scopes.{locals_after}
+use Rattle.typed_programs.specs.Limits.{statement_lets, statement_form_lets, statements_lets, arms_lets}
 use Rattle.rev_code.specs.declared.code.Instr.{Instr}
 use Rattle.rev_code.specs.declared.code.Instr.TheVariants as i
 use Rattle.code_generation.specs.Numbers.{Numbers, Scope, scope_after}

@@ -3,10 +3,10 @@ use Rattle.std.proofs.Common.{◌≡◌, ◌∙◌, ◌⊎◌, inl, inr, ℕ, su
 use Rattle.std.specs.Prelude.{option_map, if◌then◌else◌}
 use Rattle.rev_syntax.specs.Trees.{Declaration, fun, merge, shared, proc}
 use Rattle.rev_syntax.proofs.Lists.{same-self}
-use Rattle.merge_decl.specs.Least.{Among}
-use Rattle.merge_decl.specs.Names.{Name, same}
-use Rattle.rev_types.specs.Judgement.{IsMergeOf}
-use Rattle.rev_types.specs.Layout.{merge_at}
+use Rattle.typed_programs.specs.Least.{Among}
+use Rattle.name_tables.specs.Names.{Name, same}
+use Rattle.typed_programs.specs.Judgement.{IsMergeOf}
+use Rattle.typed_programs.specs.Layout.{merge_at}
 
 pub counted : (o : Option ℕ) (m : ℕ) → option_map (λ n. 1 + n) o ≡ Some m → (j : ℕ) × (o ≡ Some j) × (m ≡ suc j)
 counted None m h = absurd (let z : None ≡ Some m = h in cc)

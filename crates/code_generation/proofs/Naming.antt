@@ -4,13 +4,13 @@ use Rattle.std.specs.Prelude.{slice_get, if◌then◌else◌}
 use Rattle.rev_num.specs.declared.value.ValueKind.{ValueKind}
 use Rattle.rev_num.proofs.Lists.{get_append_left}
 use Rattle.rev_syntax.specs.Trees.{PlacedName, Expression, Statements, Declaration, fun, merge, shared, proc, ProgramTree}
-use Rattle.merge_decl.specs.Names.{Name, same}
-use Rattle.merge_decl.specs.Definitions.{names_of, fun_def, MergeDef, merges_after}
-use Rattle.merge_decl.specs.Value.{FunDef}
-use Rattle.rev_kinds.specs.Kinds.{Callee, Names}
-use Rattle.rev_types.specs.Limits.{cells, funs}
-use Rattle.rev_types.specs.Layout.{SharedVariable, variable_behind, variables_behind, variables, Procedure, procedures_from}
-use Rattle.rev_types.specs.Scopes.{outside, fun_named, proc_named, cells_of}
+use Rattle.name_tables.specs.Names.{Name, same}
+use Rattle.typed_programs.specs.Definitions.{names_of, fun_def, MergeDef, merges_after}
+use Rattle.typed_programs.specs.Value.{FunDef}
+use Rattle.typed_programs.specs.Kinds.{Callee, Names}
+use Rattle.typed_programs.specs.Limits.{cells, funs}
+use Rattle.typed_programs.specs.Layout.{SharedVariable, variable_behind, variables_behind, variables, Procedure, procedures_from}
+use Rattle.typed_programs.specs.Scopes.{outside, fun_named, proc_named, cells_of}
 use Rattle.revision_calculus.specs.Program.{variable_named, procedure_named}
 use Rattle.rev_code.specs.declared.code.CodeBlock.{CodeBlock}
 use Rattle.rev_code.specs.Variables.{place_from}

@@ -2,7 +2,7 @@
 -- class, and there are as many funs and merges together, and as many procedures, as the program declares.
 use Rattle.std.specs.Prelude.{◌≡◌, true}
 use Rattle.rev_syntax.specs.Trees.{ProgramTree}
-use Rattle.rev_types.specs.Limits.{procs, funs}
+use Rattle.typed_programs.specs.Limits.{procs, funs}
 use Rattle.rev_code.specs.Step.{is_procedure}
 use Rattle.code_rules.specs.Pass.{is_value_class}
 use Rattle.code_rules.specs.Tables.{blocks_well, count_class}

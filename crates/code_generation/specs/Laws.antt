@@ -4,8 +4,8 @@
 --   JumpsStayInside  a jump leads to a place of its block, and backwards only to a Charge, in a procedure or `main`
 use Rattle.std.specs.Prelude.{◌≡◌, ℕ, false, length, Some, slice_get}
 use Rattle.rev_syntax.specs.Trees.{Expression, Statements, ProgramTree}
-use Rattle.rev_kinds.specs.Kinds.{Names, Locals}
-use Rattle.rev_types.specs.Limits.{statements_lets}
+use Rattle.typed_programs.specs.Kinds.{Names, Locals}
+use Rattle.typed_programs.specs.Limits.{statements_lets}
 use Rattle.rev_code.specs.declared.code.Instr.{Instr}
 use Rattle.rev_code.specs.declared.code.CodeBlock.{CodeBlock}
 use Rattle.code_rules.specs.Pass.{target, bad_jump}

@@ -2,11 +2,11 @@
 use Rattle.std.specs.Prelude.{◌≡◌, ℕ, Some, slice_get, [], ◌∷◌}
 use Rattle.rev_num.specs.declared.value.ValueKind.{ValueKind}
 use Rattle.rev_syntax.specs.Trees.{PlacedName, Expression, ProgramTree}
-use Rattle.merge_decl.specs.Names.{Name}
-use Rattle.merge_decl.specs.Definitions.{names_of, MergeDef, merges_in}
-use Rattle.rev_kinds.specs.Kinds.{Callee}
-use Rattle.rev_types.specs.Layout.{SharedVariable, variables, procedures}
-use Rattle.rev_types.specs.Scopes.{outside, fun_named, proc_named}
+use Rattle.name_tables.specs.Names.{Name}
+use Rattle.typed_programs.specs.Definitions.{names_of, MergeDef, merges_in}
+use Rattle.typed_programs.specs.Kinds.{Callee}
+use Rattle.typed_programs.specs.Layout.{SharedVariable, variables, procedures}
+use Rattle.typed_programs.specs.Scopes.{outside, fun_named, proc_named}
 use Rattle.revision_calculus.specs.Program.{variable_named, procedure_named}
 use Rattle.rev_code.specs.Variables.{place_from}
 use Rattle.code_generation.specs.Numbers.{numbers, merge_number}

@@ -5,12 +5,12 @@
 -- order, those of blocks that have ended too; the scope says which of them a name means.
 use Rattle.std.specs.Prelude.{ℕ, zero, suc, ◌+◌, Bool, false, if◌then◌else◌, Option, Some, None, is_some, List, [], ◌∷◌}
 use Rattle.rev_syntax.specs.Trees.{Parameter, StatementForm, Statement, statement, bind, assign, assign_cell, choose, choose_or, repeat, call, return, fork, join, print, assert, Declaration, fun, merge, shared, proc, ProgramTree}
-use Rattle.merge_decl.specs.Names.{Name, same}
-use Rattle.merge_decl.specs.Table.{Table, added}
-use Rattle.rev_kinds.specs.Kinds.{Callee}
-use Rattle.rev_types.specs.Limits.{funs}
-use Rattle.rev_types.specs.Layout.{SharedVariable, variables}
-use Rattle.rev_types.specs.Scopes.{proc_named}
+use Rattle.name_tables.specs.Names.{Name, same}
+use Rattle.name_tables.specs.Table.{Table, added}
+use Rattle.typed_programs.specs.Kinds.{Callee}
+use Rattle.typed_programs.specs.Limits.{funs}
+use Rattle.typed_programs.specs.Layout.{SharedVariable, variables}
+use Rattle.typed_programs.specs.Scopes.{proc_named}
 
 -- ---- in a program
 

@@ -4,8 +4,8 @@ use Rattle.std.specs.Prelude.{ℕ, suc, ◌+◌, Option, Some, List, [], ◌∷�
 use Rattle.rev_num.specs.declared.value.ValueKind.{ValueKind}
 use Rattle.rev_num.specs.declared.value.ValueKind.TheVariants as k
 use Rattle.rev_syntax.specs.Trees.{PrintItem, text, shown, Statement, statement, StatementForm, bind, assign, assign_cell, choose, choose_or, repeat, call, return, fork, join, print, assert, Statements, no_statements, statements, Arms, no_arms, arm}
-use Rattle.rev_kinds.specs.Kinds.{Names, Locals, kind_in, right_side_kind}
-use Rattle.rev_types.specs.Scopes.{locals_after}
+use Rattle.typed_programs.specs.Kinds.{Names, Locals, kind_in, right_side_kind}
+use Rattle.typed_programs.specs.Scopes.{locals_after}
 use Rattle.rev_code.specs.declared.code.LayoutItem.{LayoutItem}
 use Rattle.rev_code.specs.declared.code.LayoutItem.TheVariants as item
 use Rattle.code_rules.specs.Shapes.{kind_or_int}

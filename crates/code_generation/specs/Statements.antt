@@ -4,8 +4,8 @@
 -- `let`, and the number of the next layout. `statement_form_code` is the table, one case for each form.
 use Rattle.std.specs.Prelude.{ℕ, ◌+◌, Bool, true, false, if◌then◌else◌, Option, Some, None, List, [], ◌∷◌, ◌++◌}
 use Rattle.rev_syntax.specs.Trees.{PlacedName, Expression, RightSide, plain, called, forked, tried, PrintItem, text, shown, Statement, statement, StatementForm, bind, assign, assign_cell, choose, choose_or, repeat, call, return, fork, join, print, assert, Statements, no_statements, statements, Arms, no_arms, arm}
-use Rattle.merge_decl.specs.Table.{find}
-use Rattle.rev_types.specs.Limits.{statement_lets, statements_lets, arms_lets}
+use Rattle.name_tables.specs.Table.{find}
+use Rattle.typed_programs.specs.Limits.{statement_lets, statements_lets, arms_lets}
 use Rattle.rev_code.specs.declared.code.Instr.{Instr}
 use Rattle.rev_code.specs.declared.code.Instr.TheVariants as i
 use Rattle.code_generation.specs.Numbers.{Numbers, Scope, scope_after}

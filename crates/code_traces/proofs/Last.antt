@@ -1,7 +1,7 @@
 -- In the trace of a world `main` is last.
 use Rattle.std.proofs.Common.{◌≡◌, ◌∙◌, inl, inr, true, false, List, [], ◌∷◌, refl, sym, ap}
 use Rattle.rev_num.specs.Path.{before}
-use Rattle.merge_decl.specs.Least.{Among}
+use Rattle.typed_programs.specs.Least.{Among}
 use Rattle.trace_diagram.specs.declared.diagram.Part.{Part}
 use Rattle.trace_diagram.specs.Traces.{MainIsLast}
 use Rattle.revision_machine.specs.Numbered.{Both, Listing, paths_of, ReadsAs}

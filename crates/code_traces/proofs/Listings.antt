@@ -6,7 +6,7 @@
 --                  those of a state of the calculus are its traces
 use Rattle.std.proofs.Common.{◌≡◌, ℕ, List, Option, Some, None, refl, sym, ap, ◌∙◌, subst}
 use Rattle.rev_num.specs.Path.{Path}
-use Rattle.merge_decl.specs.Least.{Among}
+use Rattle.typed_programs.specs.Least.{Among}
 use Rattle.trace_diagram.specs.declared.diagram.Part.{Part}
 use Rattle.revision_machine.specs.PathMap.{PathMap}
 use Rattle.revision_machine.specs.Machine.{Machine, Entry, Plain, Joined, Live}

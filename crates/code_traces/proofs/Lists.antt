@@ -3,7 +3,7 @@
 use Rattle.std.proofs.Common.{◌≡◌, ◌⊎◌, inl, inr, ℕ, zero, suc, Bool, true, false, cond, List, [], ◌∷◌, Some, refl, sym, ap, ◌∙◌, subst}
 use Rattle.rev_num.specs.Path.{Path, before}
 use Rattle.rev_num.proofs.PostOrder.{before_trans, before_irrefl}
-use Rattle.merge_decl.specs.Least.{Among}
+use Rattle.typed_programs.specs.Least.{Among}
 use Rattle.revision_machine.specs.Laws.{IsIn, IsDistinct}
 use Rattle.revision_machine.specs.Numbered.{at_number, paths_of}
 use Rattle.revision_machine.proofs.Paths.{some_inj}

@@ -4,7 +4,7 @@ use Rattle.std.proofs.lemmas.List.{take_all}
 use Rattle.std.specs.List.Sorted.{IsPermutation, IsSortedBy}
 use Rattle.std.proofs.lemmas.List.Sorted.{Contains-permutation, IsPermutation-pop_more, IsPermutation-refl, IsPermutation-sym, IsPermutation-to_front}
 use Rattle.rev_num.specs.Path.{Path}
-use Rattle.merge_decl.specs.Least.{Among}
+use Rattle.typed_programs.specs.Least.{Among}
 use Rattle.trace_diagram.specs.declared.diagram.Part.{Part}
 use Rattle.version_map.specs.declared.end.EndValue.{EndValue}
 use Rattle.revision_machine.specs.Machine.{Entry}

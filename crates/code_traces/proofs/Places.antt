@@ -4,8 +4,8 @@ use Rattle.std.proofs.lemmas.List.{map-append}
 use Rattle.std.specs.Prelude.{if◌then◌else◌}
 use Rattle.rev_report.specs.Outcome.{place_of}
 use Rattle.rev_syntax.specs.Trees.{Declaration}
-use Rattle.merge_decl.specs.Names.{Name}
-use Rattle.rev_types.specs.Layout.{SharedVariable, variables}
+use Rattle.name_tables.specs.Names.{Name}
+use Rattle.typed_programs.specs.Layout.{SharedVariable, variables}
 use Rattle.revision_calculus.specs.Program.{Setting}
 use Rattle.revision_calculus.specs.Outcome.{show_cells, show_variable, show_all}
 use Rattle.code_generation.specs.Generated.{var_of}

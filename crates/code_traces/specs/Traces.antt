@@ -8,7 +8,7 @@
 --   TracesAgree    that of a program's code is the trace of the end of every complete run
 use Rattle.std.specs.Prelude.{◌≡◌, ℕ, List, Some}
 use Rattle.rev_num.specs.Path.{Path}
-use Rattle.merge_decl.specs.Least.{Among}
+use Rattle.typed_programs.specs.Least.{Among}
 use Rattle.trace_diagram.specs.declared.diagram.Part.{Part}
 use Rattle.trace_diagram.specs.Traces.{MainIsLast}
 use Rattle.revision_machine.specs.Machine.{Entry, Global, Twice, Live, start, Complete}

@@ -7,8 +7,8 @@ ghost use Rattle.code_generation.specs.Generated.{code_of};
 
 use code_verifier::Verified;
 use emit_program::emit;
-use rev_types::Typed;
 use std::alloc::{AllocError, Global};
+use typed_programs::Typed;
 
 /// The code of a well-typed program, which keeps the rules on code. Nothing but want of memory
 /// stands in the way.

@@ -2,7 +2,7 @@
 use Rattle.std.proofs.Common.{◌≡◌, ◌∙◌, ℕ, suc, List, [], ◌∷◌, Option, Some, None, refl, ap}
 use Rattle.rev_num.specs.declared.value.Value.{Value}
 use Rattle.rev_syntax.specs.Trees.{ProgramTree}
-use Rattle.rev_types.specs.Layout.{variables}
+use Rattle.typed_programs.specs.Layout.{variables}
 use Rattle.revision_calculus.specs.State.{Location, Phase, running, joining, done, trapped}
 use Rattle.revision_calculus.specs.Join.{merges_of, new_value, overwrite, join_location, Composition, merged, faults, and_later, compose, absorb, join_in, left_side, note}
 use Rattle.determinacy.specs.Ends.{SameWrite, AllSame, JoinIsByTheEnd}

@@ -1,7 +1,7 @@
 -- The calculus keeps the conditions of the rules of a runner.
 use Rattle.std.proofs.Common.{◌≡◌, ◌≢◌, ℕ, ◌+◌, ◌*◌, ◌≤◌, List, Option, refl, sym, ap, ◌∙◌, arith}
 use Rattle.rev_num.specs.Path.{Path}
-use Rattle.merge_decl.specs.Names.{Name}
+use Rattle.name_tables.specs.Names.{Name}
 use Rattle.revision_machine.specs.Machine.{Moves, Forks, Joins, Ended}
 use Rattle.revision_machine.specs.Conditions.{Spends}
 use Rattle.revision_machine.specs.Rules.{Keeps, IsFirst, IsRoomy}

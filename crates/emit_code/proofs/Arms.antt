@@ -9,7 +9,7 @@ use Rattle.std.proofs.Common.{◌≡◌, ℕ, ◌+◌, ◌<◌, ◌^◌, Bool, t
 use Rattle.rev_syntax.specs.Trees.{Expression, Statements, Arms, no_arms, arm, choose, choose_or}
 use Rattle.rev_syntax.specs.View.{arms}
 use Rattle.rev_syntax.specs.declared.tree.Arm.{Arm}
-use Rattle.rev_types.specs.Limits.{statements_lets, arms_lets}
+use Rattle.typed_programs.specs.Limits.{statements_lets, arms_lets}
 use Rattle.rev_code.specs.declared.code.Instr.{Instr}
 use Rattle.rev_code.specs.declared.code.Instr.TheVariants as i
 use Rattle.code_generation.specs.Numbers.{Numbers, Scope}

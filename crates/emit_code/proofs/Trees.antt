@@ -4,7 +4,7 @@ use Rattle.rev_syntax.specs.Trees.{placed, ExpressionForm}
 use Rattle.rev_syntax.specs.View as view
 use Rattle.rev_syntax.specs.Small.{expression_count, expression_form_count}
 use Rattle.rev_syntax.specs.declared.tree.Expr.{Expr}
-use Rattle.merge_decl.proofs.Shapes.{expression-placed}
+use Rattle.typed_programs.proofs.Shapes.{expression-placed}
 use Rattle.rev_code.specs.declared.code.Instr.{Instr}
 use Rattle.code_generation.specs.Numbers.{Numbers, Scope}
 use Rattle.code_generation.specs.Expressions.{expression_code, form_code}

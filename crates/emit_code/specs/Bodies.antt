@@ -1,7 +1,7 @@
 -- A body while its code is written: where it stands, and how much more can be numbered.
 use Rattle.std.specs.Prelude.{◌<◌, ◌+◌, ◌^◌, ℕ, Bool, true, false, List, [], ◌∷◌, ◌++◌, length, slice_set}
 use Rattle.rev_syntax.specs.Trees.{Expression, Statement, StatementForm, Statements, Arms, no_arms, arm}
-use Rattle.rev_types.specs.Limits.{statement_form_lets, statement_lets, statements_lets, arms_lets}
+use Rattle.typed_programs.specs.Limits.{statement_form_lets, statement_lets, statements_lets, arms_lets}
 use Rattle.rev_code.specs.declared.code.Instr.{Instr}
 use Rattle.rev_code.specs.declared.code.Instr.TheVariants as i
 use Rattle.code_generation.specs.Numbers.{Numbers, Scope}

@@ -1,7 +1,7 @@
 -- What tables of names say, as the definition of code asks for it.
 use Rattle.std.specs.Prelude.{ℕ, Bool, false, Option, Some, None}
-use Rattle.merge_decl.specs.Names.{Name}
-use Rattle.merge_decl.specs.Table.{find}
+use Rattle.name_tables.specs.Names.{Name}
+use Rattle.name_tables.specs.Table.{find}
 use Rattle.code_generation.specs.Numbers.{Numbers}
 use Rattle.emit_code.specs.declared.known.Numbered.{Numbered}
 use Rattle.emit_code.specs.declared.known.NameNumbers.{NameNumbers}

@@ -5,8 +5,8 @@ ghost use Rattle.std.specs.Prelude.{◌||◌};
 ghost use Rattle.rev_syntax.specs.Trees as tree;
 ghost use Rattle.rev_syntax.specs.View.{arm as pair, arms, block, expression, placed_name};
 ghost use Rattle.rev_syntax.specs.View.{print_item, right_side, statement_form, stmt};
-ghost use Rattle.rev_types.specs.Limits.{arms_lets, statement_form_lets, statement_lets};
-ghost use Rattle.rev_types.specs.Limits.{statements_lets};
+ghost use Rattle.typed_programs.specs.Limits.{arms_lets, statement_form_lets, statement_lets};
+ghost use Rattle.typed_programs.specs.Limits.{statements_lets};
 ghost use Rattle.code_generation.specs.Numbers.{scope_after, scope_after_form};
 ghost use Rattle.code_generation.specs.Expressions.{expression_size};
 ghost use Rattle.code_generation.specs.Sizes.{arms_prints, arms_size, statement_form_prints};
@@ -25,7 +25,7 @@ use crate::{
     Known, NameNumbers, emit_assert, emit_assign, emit_assign_cell, emit_bind, emit_call,
     emit_expression, emit_fork, emit_join, emit_print, emit_return, here, patch, put,
 };
-use merge_decl::NameTable;
+use name_tables::NameTable;
 use rev_code::Instr;
 use rev_syntax::{Arm, Block, Expr, Form, Item, Name, Rhs, Stmt};
 use std::alloc::{AllocError, Global};

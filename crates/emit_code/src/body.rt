@@ -1,6 +1,6 @@
 //! A body while its code is written.
 
-use merge_decl::NameTable;
+use name_tables::NameTable;
 use rev_code::Instr;
 
 /// The code so far, the locals in scope, and the numbers of the next `let` and of the next layout.

@@ -2,12 +2,12 @@
 
 ghost use Rattle.std.specs.Prelude.{◌≡◌};
 ghost use Rattle.rev_syntax.specs.View.{placed_name};
-ghost use Rattle.merge_decl.specs.Table.{find};
+ghost use Rattle.name_tables.specs.Table.{find};
 ghost use Rattle.code_generation.specs.Expressions.{load};
 ghost use Rattle.code_generation.specs.Statements.{store};
 ghost use Rattle.emit_code.specs.Naming.{number_in, numbers_of};
 
-use merge_decl::NameTable;
+use name_tables::NameTable;
 use rev_code::Instr;
 use rev_syntax::Name;
 

@@ -3,15 +3,15 @@ use Rattle.std.proofs.Common.{◌≤◌, ℕ, List, [], ◌∷◌, arith}
 use Rattle.std.proofs.lemmas.List.{length-map}
 use Rattle.rev_syntax.specs.Trees.{Declaration, fun, merge, shared, proc, ProgramTree}
 use Rattle.rev_syntax.specs.Small.{declarations_count, IsSmall}
-use Rattle.merge_decl.specs.Table.{Table}
-use Rattle.merge_decl.specs.Weights.{weights_with}
+use Rattle.name_tables.specs.Table.{Table}
+use Rattle.typed_programs.specs.Weights.{weights_with}
 use Rattle.rev_syntax.specs.View.{program as whole}
-use Rattle.rev_types.specs.declared.typed.Typed.{Typed}
-use Rattle.rev_types.specs.Accepted.{IsWellTyped}
-use Rattle.rev_types.proofs.Accepting.{kept_typed}
-use Rattle.rev_types.specs.Layout.{variables}
-use Rattle.rev_types.specs.Limits.{DeclarationsWithin}
-use Rattle.rev_types.specs.Scopes.{outside, within}
+use Rattle.typed_programs.specs.declared.typed.Typed.{Typed}
+use Rattle.typed_programs.specs.Accepted.{IsWellTyped}
+use Rattle.typed_programs.proofs.Accepting.{kept_typed}
+use Rattle.typed_programs.specs.Layout.{variables}
+use Rattle.typed_programs.specs.Limits.{DeclarationsWithin}
+use Rattle.typed_programs.specs.Scopes.{outside, within}
 use Rattle.code_generation.specs.Numbers.{Numbers, numbers}
 use Rattle.code_generation.specs.Generated.{var_of}
 use Rattle.generated_certificates.proofs.Counts.{size_few, statements_few}

@@ -1,8 +1,8 @@
 -- Declarations in order: what the first adds, and those behind it.
 use Rattle.std.proofs.Common.{◌≡◌, ◌∙◌, ◌<◌, ◌^◌, ℕ, ◌+◌, List, [], ◌∷◌, ◌++◌, length, refl, ap, sym, arith, append_assoc, length-append}
 use Rattle.rev_syntax.specs.Trees.{Statements, Declaration, fun, merge, shared, proc}
-use Rattle.rev_kinds.specs.Kinds.{Names}
-use Rattle.rev_types.specs.Scopes as scopes
+use Rattle.typed_programs.specs.Kinds.{Names}
+use Rattle.typed_programs.specs.Scopes as scopes
 use Rattle.rev_code.specs.declared.code.LayoutItem.{LayoutItem}
 use Rattle.rev_code.specs.declared.code.CodeBlock.{CodeBlock}
 use Rattle.code_generation.specs.Numbers.{Numbers}

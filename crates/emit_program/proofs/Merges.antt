@@ -2,7 +2,7 @@
 use Rattle.std.proofs.Common.{◌≡◌, ◌∙◌, ℕ, zero, suc, ◌+◌, Option, Some, None, List, [], ◌∷◌, refl, ap, arith}
 use Rattle.std.specs.Prelude.{slice_get}
 use Rattle.rev_syntax.specs.Trees.{Declaration, fun, merge, shared, proc}
-use Rattle.rev_types.specs.Limits.{funs}
+use Rattle.typed_programs.specs.Limits.{funs}
 use Rattle.code_generation.specs.Numbers.{merge_number}
 use Rattle.code_generation.specs.Generated.{merge_entry}
 use Rattle.emit_code.specs.Naming.{or_next}

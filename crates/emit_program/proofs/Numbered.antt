@@ -1,13 +1,13 @@
 -- The tables of names say what the numbers of a program are.
 use Rattle.std.proofs.Common.{◌≡◌, ◌∙◌, ℕ, suc, ◌+◌, Bool, true, false, if◌then◌else◌, Option, Some, None, option_map, is_some, List, [], ◌∷◌, ◌++◌, length, refl, ap, sym, arith}
 use Rattle.rev_syntax.specs.Trees.{Declaration, fun, merge, shared, proc, ProgramTree}
-use Rattle.merge_decl.specs.Names.{Name, same}
-use Rattle.merge_decl.specs.Table.{Table, find, added}
-use Rattle.merge_decl.proofs.Tables.{or_else, or_else-step, find-added, or_else-none}
-use Rattle.rev_kinds.specs.Kinds.{Callee}
-use Rattle.rev_types.specs.Layout.{variables_behind, variables}
-use Rattle.rev_types.specs.Limits as limit
-use Rattle.rev_types.specs.Scopes.{proc_named}
+use Rattle.name_tables.specs.Names.{Name, same}
+use Rattle.name_tables.specs.Table.{Table, find, added}
+use Rattle.name_tables.proofs.Tables.{or_else, or_else-step, find-added, or_else-none}
+use Rattle.typed_programs.specs.Kinds.{Callee}
+use Rattle.typed_programs.specs.Layout.{variables_behind, variables}
+use Rattle.typed_programs.specs.Limits as limit
+use Rattle.typed_programs.specs.Scopes.{proc_named}
 use Rattle.code_generation.specs.Numbers.{var_number, fun_number, proc_number, has_result, numbers}
 use Rattle.emit_code.specs.declared.known.NameNumbers.{NameNumbers}
 use Rattle.emit_code.specs.Naming.{or_next, number_in, gives_in, numbers_of}

@@ -2,8 +2,8 @@
 use Rattle.std.proofs.Common.{◌≡◌, ◌∙◌, ◌+◌, Some, List, [], ◌∷◌, ◌++◌, length, map, refl, ap, sym, append_assoc, arith}
 use Rattle.std.specs.Prelude.{slice_get}
 use Rattle.rev_syntax.specs.Trees.{SharedDeclaration, Declaration, fun, merge, shared, proc}
-use Rattle.rev_types.specs.Limits.{funs}
-use Rattle.rev_types.specs.Layout.{variable_behind, variables_behind, merge_of}
+use Rattle.typed_programs.specs.Limits.{funs}
+use Rattle.typed_programs.specs.Layout.{variable_behind, variables_behind, merge_of}
 use Rattle.code_generation.specs.Generated.{var_of}
 use Rattle.code_generation.proofs.Naming.{get_right}
 use Rattle.emit_program.specs.Numbering.{merges_from}

@@ -1,9 +1,9 @@
 -- The code of a program from its parts.
 use Rattle.std.proofs.Common.{◌≡◌, ◌∙◌, ◌<◌, ◌^◌, List, ◌++◌, length, map, subst, sym}
 use Rattle.rev_syntax.specs.Trees.{ProgramTree}
-use Rattle.rev_kinds.specs.Kinds.{Names}
-use Rattle.rev_types.specs.Layout.{variables}
-use Rattle.rev_types.specs.Scopes.{outside}
+use Rattle.typed_programs.specs.Kinds.{Names}
+use Rattle.typed_programs.specs.Layout.{variables}
+use Rattle.typed_programs.specs.Scopes.{outside}
 use Rattle.rev_code.specs.declared.code.CodeVar.{CodeVar}
 use Rattle.rev_code.specs.declared.code.CodeBlock.{CodeBlock}
 use Rattle.rev_code.specs.declared.code.LayoutItem.{LayoutItem}

@@ -1,9 +1,9 @@
 -- A program whose code has numbers of the sizes that instructions hold.
 use Rattle.std.specs.Prelude.{◌<◌, ◌+◌, ◌^◌, List, [], ◌∷◌, length}
 use Rattle.rev_syntax.specs.Trees.{Parameter, Expression, Statements, Declaration, fun, merge, shared, proc, ProgramTree}
-use Rattle.rev_types.specs.Layout.{variables}
-use Rattle.rev_types.specs.Limits.{funs, procs, statements_lets}
-use Rattle.rev_types.specs.Scopes.{outside}
+use Rattle.typed_programs.specs.Layout.{variables}
+use Rattle.typed_programs.specs.Limits.{funs, procs, statements_lets}
+use Rattle.typed_programs.specs.Scopes.{outside}
 use Rattle.code_generation.specs.Numbers.{Numbers, numbers}
 use Rattle.code_generation.specs.Expressions.{expression_size}
 use Rattle.code_generation.specs.Sizes.{statements_size}

@@ -1,8 +1,8 @@
 -- The tables of numbers behind declarations: each name has the number of its first declaration.
 use Rattle.std.specs.Prelude.{◌<◌, ◌+◌, ◌^◌, ℕ, is_some, List, [], ◌∷◌, ◌++◌}
 use Rattle.rev_syntax.specs.Trees.{Declaration, fun, merge, shared, proc}
-use Rattle.merge_decl.specs.Names.{Name}
-use Rattle.merge_decl.specs.Table.{added}
+use Rattle.name_tables.specs.Names.{Name}
+use Rattle.name_tables.specs.Table.{added}
 use Rattle.emit_code.specs.declared.known.Numbered.{Numbered}
 use Rattle.emit_code.specs.declared.known.NameNumbers.{NameNumbers}
 

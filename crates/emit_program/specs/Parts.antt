@@ -1,8 +1,8 @@
 -- What one declaration adds to the code.
 use Rattle.std.specs.Prelude.{ℕ, Bool, List, [], ◌∷◌}
 use Rattle.rev_syntax.specs.Trees.{statement, Statements, no_statements, statements, Declaration, fun, merge, shared, proc}
-use Rattle.rev_kinds.specs.Kinds.{Names}
-use Rattle.rev_types.specs.Scopes as scopes
+use Rattle.typed_programs.specs.Kinds.{Names}
+use Rattle.typed_programs.specs.Scopes as scopes
 use Rattle.rev_code.specs.declared.code.LayoutItem.{LayoutItem}
 use Rattle.rev_code.specs.declared.code.CodeBlock.{CodeBlock}
 use Rattle.code_generation.specs.Numbers.{Numbers}

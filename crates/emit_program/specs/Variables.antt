@@ -1,7 +1,7 @@
 -- The shared variables of code, by the rows of the checker's table.
 use Rattle.std.specs.Prelude.{ℕ, Option, Some, None, is_some, List, [], ◌∷◌, ◌++◌, slice_get}
 use Rattle.rev_syntax.specs.Trees.{Declaration, fun, merge, shared, proc}
-use Rattle.rev_types.specs.declared.tables.SharedInfo.{SharedInfo}
+use Rattle.typed_programs.specs.declared.shared_info.SharedInfo.{SharedInfo}
 use Rattle.revision_calculus.specs.Program.{first_value}
 use Rattle.rev_code.specs.declared.code.CodeVar.{CodeVar}
 use Rattle.code_generation.specs.Generated.{value_word}

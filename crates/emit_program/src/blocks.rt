@@ -2,7 +2,7 @@
 
 ghost use Rattle.std.specs.Prelude.{◌≡◌, ◌<◌, ◌+◌, ◌^◌, ◌++◌, IfOk, OnOk, map};
 ghost use Rattle.rev_syntax.specs.View.{declaration};
-ghost use Rattle.rev_types.specs.Limits.{funs};
+ghost use Rattle.typed_programs.specs.Limits.{funs};
 ghost use Rattle.emit_program.specs.Numbering.{merge_at, merges_from, value_count};
 
 use rev_syntax::Decl;

@@ -2,15 +2,15 @@
 
 ghost use Rattle.std.specs.Prelude.{◌≡◌, ◌<◌, ◌+◌, ◌^◌, [], IfOk, OnOk, length};
 ghost use Rattle.rev_syntax.specs.View.{declaration, program as whole};
-ghost use Rattle.rev_types.specs.Layout.{variables};
-ghost use Rattle.rev_types.specs.Limits.{funs, procs};
+ghost use Rattle.typed_programs.specs.Layout.{variables};
+ghost use Rattle.typed_programs.specs.Limits.{funs, procs};
 ghost use Rattle.code_generation.specs.Numbers.{numbers};
 ghost use Rattle.emit_code.specs.Naming.{numbers_of};
 ghost use Rattle.emit_program.specs.Numbering.{HasRoom, entered, proc_count, value_count};
 ghost use Rattle.emit_program.specs.Numbering.{var_count, with_declaration};
 
 use emit_code::{NameNumbers, Numbered};
-use merge_decl::NameTable;
+use name_tables::NameTable;
 use rev_syntax::{Decl, Program};
 use std::alloc::{AllocError, Global};
 

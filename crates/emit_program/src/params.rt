@@ -2,11 +2,11 @@
 
 ghost use Rattle.std.specs.Prelude.{◌≡◌, ◌<◌, ◌^◌, [], IfOk, length, map};
 ghost use Rattle.rev_syntax.specs.View.{parameter, placed_name};
-ghost use Rattle.rev_types.specs.Scopes as scopes;
+ghost use Rattle.typed_programs.specs.Scopes as scopes;
 ghost use Rattle.code_generation.specs.Numbers.{with_params};
 ghost use Rattle.code_generation.specs.Generated.{kinds_of, merge_scope};
 
-use merge_decl::NameTable;
+use name_tables::NameTable;
 use rev_kinds::Locals;
 use rev_num::ValueKind;
 use rev_syntax::{Name, Param};

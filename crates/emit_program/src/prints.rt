@@ -65,7 +65,7 @@ fn list_item(
 }
 
 /// Lists the texts of a print, and gives its layout.
-#[tactic(auto, using(merge_decl::proofs::Appends::appends))]
+#[tactic(auto, using(typed_programs::proofs::Appends::appends))]
 pub fn list_items(
     alloc: Global,
     checker: &Checker,

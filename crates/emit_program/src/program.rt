@@ -3,8 +3,8 @@
 ghost use Rattle.std.specs.Prelude.{◌≡◌, IfOk, map};
 ghost use Rattle.rev_syntax.specs.View.{program as whole};
 ghost use Rattle.rev_kinds.specs.Walk.{names_of};
-ghost use Rattle.rev_types.specs.Layout.{variables};
-ghost use Rattle.rev_types.specs.Scopes.{outside};
+ghost use Rattle.typed_programs.specs.Layout.{variables};
+ghost use Rattle.typed_programs.specs.Scopes.{outside};
 ghost use Rattle.code_generation.specs.Generated.{code_of, var_of};
 ghost use Rattle.code_generation.specs.Numbers as numbering;
 ghost use Rattle.emit_code.specs.Naming.{numbers_of};
@@ -19,8 +19,9 @@ use emit_code::NameNumbers;
 use rev_code::{Code, CodeVar};
 use rev_kinds::Checker;
 use rev_num::Items;
-use rev_types::{Typed, name_tables};
+use rev_types::name_tables;
 use std::alloc::{AllocError, Global};
+use typed_programs::Typed;
 
 /// The code of a well-typed program, by its variables, the numbers of its names and what these
 /// names mean.

@@ -4,7 +4,7 @@ ghost use Rattle.std.specs.Prelude.{◌≡◌, ◌<◌, ◌+◌, ◌^◌, ◌++�
 ghost use Rattle.rev_syntax.specs.View.{arms, block, placed_name, print_item};
 ghost use Rattle.rev_syntax.specs.View.{right_side, statement_form, stmt};
 ghost use Rattle.rev_kinds.specs.Walk.{names_of};
-ghost use Rattle.rev_types.specs.Scopes.{bound, locals_after, statement_form_locals};
+ghost use Rattle.typed_programs.specs.Scopes.{bound, locals_after, statement_form_locals};
 ghost use Rattle.code_generation.specs.Prints.{arms_kinds, arms_layouts, arms_texts};
 ghost use Rattle.code_generation.specs.Prints.{statement_form_kinds, statement_form_layouts};
 ghost use Rattle.code_generation.specs.Prints.{statement_form_texts, statement_kinds};
@@ -82,7 +82,7 @@ fn list_print(
 
 /// Lists what a statement has.
 #[cycle(statements)]
-#[tactic(auto, using(merge_decl::proofs::Appends::appends))]
+#[tactic(auto, using(typed_programs::proofs::Appends::appends))]
 fn list_statement(
     alloc: Global,
     checker: &Checker,
@@ -107,7 +107,7 @@ fn list_statement(
 }
 
 #[cycle(statements)]
-#[tactic(auto, using(merge_decl::proofs::Appends::appends))]
+#[tactic(auto, using(typed_programs::proofs::Appends::appends))]
 fn list_form(
     alloc: Global,
     checker: &Checker,
@@ -155,7 +155,7 @@ fn list_form(
 
 /// Lists what the blocks of arms have.
 #[cycle(statements)]
-#[tactic(auto, using(merge_decl::proofs::Appends::appends))]
+#[tactic(auto, using(typed_programs::proofs::Appends::appends))]
 fn list_arms(
     alloc: Global,
     checker: &Checker,
@@ -183,7 +183,7 @@ fn list_arms(
 
 /// Lists what a block has. The locals that it binds are not in scope behind it.
 #[cycle(statements)]
-#[tactic(auto, using(merge_decl::proofs::Appends::appends))]
+#[tactic(auto, using(typed_programs::proofs::Appends::appends))]
 pub fn list_block(
     alloc: Global,
     checker: &Checker,

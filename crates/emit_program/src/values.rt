@@ -11,7 +11,7 @@ ghost use Rattle.emit_program.specs.Parts.{value_block_of};
 
 use crate::params::{merge_scope, params_kinds, params_scope};
 use emit_code::{Known, NameNumbers, emit_expression, put};
-use merge_decl::NameTable;
+use name_tables::NameTable;
 use rev_code::{BlockClass, CodeBlock, Instr};
 use rev_num::{Items, ValueKind};
 use rev_syntax::{Decl, Expr, Name, Param};

@@ -3,8 +3,8 @@
 ghost use Rattle.std.specs.Prelude.{◌≡◌, ◌++◌, IfOk, OnOk, map, option_copied, option_map};
 ghost use Rattle.std.specs.Prelude.{slice_get};
 ghost use Rattle.rev_syntax.specs.View.{constant, declaration, program as whole};
-ghost use Rattle.rev_types.specs.Layout.{variables};
-ghost use Rattle.rev_types.specs.Limits.{funs};
+ghost use Rattle.typed_programs.specs.Layout.{variables};
+ghost use Rattle.typed_programs.specs.Limits.{funs};
 ghost use Rattle.revision_calculus.specs.Program.{constant_value, first_value};
 ghost use Rattle.code_generation.specs.Generated.{value_word, var_of};
 ghost use Rattle.emit_program.specs.Numbering.{merges_from};
@@ -14,8 +14,8 @@ use crate::blocks::ValueBlocks;
 use rev_code::CodeVar;
 use rev_num::{Items, Value, ValueKind, word_of_int};
 use rev_syntax::{Const, Decl};
-use rev_types::{SharedInfo, Typed};
 use std::alloc::{AllocError, Global};
+use typed_programs::{SharedInfo, Typed};
 
 /// The word of a constant. Of handles, `none` alone can be written.
 fn word_of_value(value: &Value) -> u64
@@ -93,7 +93,7 @@ fn enter_var(
 }
 
 /// The declaration of this number.
-#[tactic(auto, using(merge_decl::proofs::Declared::slice_get_mapped))]
+#[tactic(auto, using(typed_programs::proofs::Declared::slice_get_mapped))]
 fn declared(decls: &[Decl], number: u32) -> Option<&Decl>
     ensures { option_map declaration (option_copied result)
         ≡ slice_get (map declaration decls.now) number }

@@ -1,8 +1,8 @@
 -- What all applications of a scope have, those of each expression have.
 use Rattle.std.proofs.Common.{◌≡◌, Some}
 use Rattle.rev_syntax.specs.Trees.{Expression, placed, ExpressionForm, Expressions, Links, int, bool, no_rev, var, cell, apply, input, inputs, pick, unary, chain, no_expressions, expression, no_links, link}
-use Rattle.merge_decl.specs.Names.{Name}
-use Rattle.rev_kinds.specs.Kinds.{Callee, Names}
+use Rattle.name_tables.specs.Names.{Name}
+use Rattle.typed_programs.specs.Kinds.{Callee, Names}
 use Rattle.expression_meaning.specs.Applying.{AllApply, FormApplies, ArgsApply, LinksApply}
 
 module _ (c : Names) (Can : Name → Callee → Type 0)

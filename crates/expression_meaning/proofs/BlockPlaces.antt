@@ -5,13 +5,13 @@ use Rattle.rev_num.specs.declared.value.ValueKind.{ValueKind}
 use Rattle.rev_num.specs.declared.value.ValueKind.TheVariants as k
 use Rattle.rev_syntax.specs.Trees.{Expression, Statement, Statements, no_statements, statements, Arms, arm}
 use Rattle.rev_syntax.specs.Small.{expression_small, statement_small, statements_small, arms_small}
-use Rattle.rev_kinds.specs.Kinds.{Locals}
-use Rattle.rev_kinds.specs.Typing.{HasKind}
-use Rattle.rev_kinds.proofs.Lists.{and_parts}
-use Rattle.rev_types.specs.Judgement.{ArmsTyped}
-use Rattle.rev_types.specs.Limits.{statement_lets, statements_lets}
-use Rattle.rev_types.specs.Scopes.{locals_after}
-use Rattle.rev_types.proofs.Scopes.{statement_scope}
+use Rattle.typed_programs.specs.Kinds.{Locals}
+use Rattle.typed_programs.specs.Typing.{HasKind}
+use Rattle.typed_programs.proofs.Lists.{and_parts}
+use Rattle.typed_programs.specs.Judgement.{ArmsTyped}
+use Rattle.typed_programs.specs.Limits.{statement_lets, statements_lets}
+use Rattle.typed_programs.specs.Scopes.{locals_after}
+use Rattle.typed_programs.proofs.Scopes.{statement_scope}
 use Rattle.revision_calculus.specs.Program.{Setting}
 use Rattle.revision_calculus.specs.Kinded.{names}
 use Rattle.revision_calculus.specs.Step.{append}

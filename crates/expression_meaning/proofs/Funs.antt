@@ -9,21 +9,21 @@ use Rattle.rev_num.specs.declared.value.ValueKind.{ValueKind}
 use Rattle.rev_num.specs.declared.value.ValueKind.TheVariants as k
 use Rattle.rev_syntax.specs.Trees.{PlacedName, Parameter, Expression, Declaration, fun, merge, shared, proc, ProgramTree}
 use Rattle.rev_syntax.specs.Small.{name_formed, expression_small, parameter_formed, declaration_small}
-use Rattle.merge_decl.specs.Names.{Name, same}
-use Rattle.merge_decl.specs.FunRules.{Use, expression_uses, statements_uses, later_here, broken_by, broken_in, declarations_uses, first_fun}
-use Rattle.merge_decl.specs.FunRules as rule
-use Rattle.merge_decl.specs.declared.expand.FunHead.{FunHead}
-use Rattle.merge_decl.specs.Value as value
+use Rattle.name_tables.specs.Names.{Name, same}
+use Rattle.typed_programs.specs.FunRules.{Use, expression_uses, statements_uses, later_here, broken_by, broken_in, declarations_uses, first_fun}
+use Rattle.typed_programs.specs.FunRules as rule
+use Rattle.typed_programs.specs.declared.expanded.FunHead.{FunHead}
+use Rattle.typed_programs.specs.Value as value
 use Rattle.std.specs.Option.{option_or}
-use Rattle.merge_decl.specs.Value.{FunDef, fun_value, funs_of}
-use Rattle.merge_decl.specs.Definitions.{fun_def, funs_after, funs_in, MergeDef, merge_def, merges_after, merges_in, merged}
-use Rattle.merge_decl.proofs.Tables.{or_else, or_else-none, or_else-step}
-use Rattle.rev_kinds.specs.Kinds.{Callee, Names}
-use Rattle.rev_kinds.proofs.Lists.{parts, failed, and_parts}
-use Rattle.rev_types.specs.Scopes.{fun_named, outside, within}
-use Rattle.rev_types.specs.Judgement.{DeclarationsTyped}
-use Rattle.rev_types.proofs.Applying.{broken_parts, small_formed}
-use Rattle.rev_types.proofs.DeclsSound.{program_typed}
+use Rattle.typed_programs.specs.Value.{FunDef, fun_value, funs_of}
+use Rattle.typed_programs.specs.Definitions.{fun_def, funs_after, funs_in, MergeDef, merge_def, merges_after, merges_in, merged}
+use Rattle.name_tables.proofs.Tables.{or_else, or_else-none, or_else-step}
+use Rattle.typed_programs.specs.Kinds.{Callee, Names}
+use Rattle.typed_programs.proofs.Lists.{parts, failed, and_parts}
+use Rattle.typed_programs.specs.Scopes.{fun_named, outside, within}
+use Rattle.typed_programs.specs.Judgement.{DeclarationsTyped}
+use Rattle.typed_programs.proofs.Applying.{broken_parts, small_formed}
+use Rattle.typed_programs.proofs.DeclsSound.{program_typed}
 use Rattle.revision_calculus.specs.Kinded.{IsAccepted}
 use Rattle.rev_code.specs.declared.code.Code.{Code}
 use Rattle.rev_code.specs.declared.code.CodeBlock.{CodeBlock}
@@ -36,9 +36,9 @@ use Rattle.code_generation.specs.Numbers.{Numbers, numbers, fun_number, merge_nu
 use Rattle.code_generation.specs.Generated.{fun_block, merge_block, value_blocks, body_blocks, code_of, kinds_of}
 use Rattle.expression_meaning.specs.Agrees.{word, coded, IsOfKind, FunReads}
 use Rattle.expression_meaning.specs.Blocks.{IsBody, merge_params}
-use Rattle.merge_decl.proofs.Firsts.{first_from, known_or_later}
-use Rattle.rev_types.proofs.MergeParams.{merge_new}
-use Rattle.rev_kinds.proofs.Uses.{OfUses, uses_fine}
+use Rattle.typed_programs.proofs.Firsts.{first_from, known_or_later}
+use Rattle.typed_programs.proofs.MergeParams.{merge_new}
+use Rattle.typed_programs.proofs.Uses.{OfUses, uses_fine}
 use Rattle.expression_meaning.proofs.Uses.{Use_can, applies}
 use Rattle.expression_meaning.proofs.Blocks.{fun_gives, merge_gives, take_all, kinds_length}
 use Rattle.code_generation.proofs.BlockPlaces.{Stand, first_stands, rest_stands, all_stand}

@@ -7,9 +7,9 @@ use Rattle.rev_num.specs.Path.{Path}
 use Rattle.rev_num.specs.declared.value.Value.{Value}
 use Rattle.rev_num.specs.declared.value.ValueKind.{ValueKind}
 use Rattle.rev_num.specs.Value.{kind_of}
-use Rattle.merge_decl.specs.Names.{Name, same}
-use Rattle.merge_decl.specs.Table.{Table, find, added}
-use Rattle.merge_decl.proofs.Tables.{same_equal, or_else, or_else-none, find-added}
+use Rattle.name_tables.specs.Names.{Name, same}
+use Rattle.name_tables.specs.Table.{Table, find, added}
+use Rattle.name_tables.proofs.Tables.{same_equal, or_else, or_else-none, find-added}
 use Rattle.revision_calculus.specs.State as source
 use Rattle.revision_calculus.specs.State.{view_at, write_at}
 use Rattle.revision_calculus.specs.Evaluation.{with_local}

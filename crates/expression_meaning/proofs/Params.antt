@@ -6,14 +6,14 @@ use Rattle.rev_num.specs.declared.value.Value.{Value}
 use Rattle.rev_num.specs.declared.value.ValueKind.{ValueKind}
 use Rattle.rev_num.specs.Value.{kind_of}
 use Rattle.rev_syntax.specs.Trees.{Parameter}
-use Rattle.merge_decl.specs.Names.{Name, same}
-use Rattle.merge_decl.specs.Table.{find, added}
-use Rattle.merge_decl.specs.Definitions.{names_of}
-use Rattle.merge_decl.specs.Value.{bind, bind_all}
-use Rattle.merge_decl.proofs.Tables.{same_equal, find-added, or_else, or_else-none}
-use Rattle.rev_kinds.specs.Kinds.{Names, Locals}
-use Rattle.rev_types.specs.Judgement.{ParamsNew}
-use Rattle.rev_types.specs.Scopes as scopes
+use Rattle.name_tables.specs.Names.{Name, same}
+use Rattle.name_tables.specs.Table.{find, added}
+use Rattle.typed_programs.specs.Definitions.{names_of}
+use Rattle.typed_programs.specs.Value.{bind, bind_all}
+use Rattle.name_tables.proofs.Tables.{same_equal, find-added, or_else, or_else-none}
+use Rattle.typed_programs.specs.Kinds.{Names, Locals}
+use Rattle.typed_programs.specs.Judgement.{ParamsNew}
+use Rattle.typed_programs.specs.Scopes as scopes
 use Rattle.rev_code.specs.Words.{Word}
 use Rattle.code_generation.specs.Numbers.{Scope, with_params}
 use Rattle.expression_meaning.specs.Agrees.{word, ArgsAre}

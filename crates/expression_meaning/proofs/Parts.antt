@@ -3,13 +3,13 @@ use Rattle.std.proofs.Common.{◌≡◌, ◌∙◌, ◌<◌, ◌≤◌, ℕ, suc
 use Rattle.std.specs.Prelude.{slice_get, if◌then◌else◌}
 use Rattle.rev_num.specs.declared.value.ValueKind.{ValueKind}
 use Rattle.rev_syntax.specs.Trees.{Statement, statement, bind, assign, assign_cell, choose, choose_or, repeat, call, return, fork, join, print, assert}
-use Rattle.merge_decl.specs.Names.{Name, same}
-use Rattle.merge_decl.specs.Table.{find, added}
-use Rattle.merge_decl.proofs.Tables.{same_equal, or_else, or_else-none, find-added}
-use Rattle.rev_kinds.specs.Kinds.{Names, Locals}
-use Rattle.rev_types.specs.Judgement.{StatementTyped}
-use Rattle.rev_types.specs.Limits.{statement_lets}
-use Rattle.rev_types.proofs.Scopes.{right_side_is}
+use Rattle.name_tables.specs.Names.{Name, same}
+use Rattle.name_tables.specs.Table.{find, added}
+use Rattle.name_tables.proofs.Tables.{same_equal, or_else, or_else-none, find-added}
+use Rattle.typed_programs.specs.Kinds.{Names, Locals}
+use Rattle.typed_programs.specs.Judgement.{StatementTyped}
+use Rattle.typed_programs.specs.Limits.{statement_lets}
+use Rattle.typed_programs.proofs.Scopes.{right_side_is}
 use Rattle.code_generation.specs.Numbers.{Scope, scope_after}
 use Rattle.code_generation.specs.Prints.{statement_kinds}
 use Rattle.code_generation.specs.Stands.{HasItems}

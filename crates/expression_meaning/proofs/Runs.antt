@@ -13,13 +13,13 @@ use Rattle.rev_num.specs.Value.{kind_of}
 use Rattle.rev_syntax.specs.Trees.{PlacedName, Parameter, Expression, placed, ExpressionForm, Expressions, Links, int, bool, no_rev, var, cell, apply, input, inputs, pick, unary, chain, no_expressions, expression, no_links, link}
 use Rattle.rev_syntax.specs.declared.tree.BinaryOp.{BinaryOp}
 use Rattle.rev_syntax.specs.declared.tree.BinaryOp.TheVariants as b
-use Rattle.merge_decl.specs.Names.{Name}
-use Rattle.merge_decl.specs.Table.{find}
-use Rattle.merge_decl.specs.Value as value
-use Rattle.merge_decl.specs.Value.{Answer, Env, Funs, and_then, called, value_by, values_by, expression_form_value, chained, linked, short, operated, reversed, truth_of, number_of, read}
-use Rattle.rev_kinds.specs.declared.names.Holder.{Holder}
-use Rattle.rev_kinds.specs.Kinds.{Callee, Names, Locals, operand_kind, given_kind}
-use Rattle.rev_kinds.specs.Typing.{ScalarHas, ArrayHas, TakesLeft, TakesRightSide}
+use Rattle.name_tables.specs.Names.{Name}
+use Rattle.name_tables.specs.Table.{find}
+use Rattle.typed_programs.specs.Value as value
+use Rattle.typed_programs.specs.Value.{Answer, Env, Funs, and_then, called, value_by, values_by, expression_form_value, chained, linked, short, operated, reversed, truth_of, number_of, read}
+use Rattle.typed_programs.specs.declared.names.Holder.{Holder}
+use Rattle.typed_programs.specs.Kinds.{Callee, Names, Locals, operand_kind, given_kind}
+use Rattle.typed_programs.specs.Typing.{ScalarHas, ArrayHas, TakesLeft, TakesRightSide}
 use Rattle.rev_code.specs.declared.code.Instr.{Instr}
 use Rattle.rev_code.specs.declared.code.Instr.TheVariants as i
 use Rattle.rev_code.specs.declared.code.CodeBlock.{CodeBlock}

@@ -4,10 +4,10 @@ use Rattle.std.specs.Prelude.{◌≡◌, false, Some, List, [], ◌∷◌}
 use Rattle.rev_num.specs.declared.value.ValueKind.{ValueKind}
 use Rattle.rev_num.specs.declared.value.ValueKind.TheVariants as k
 use Rattle.rev_syntax.specs.Trees.{Parameter, Expression, placed, ExpressionForm, Expressions, Links, int, bool, no_rev, var, cell, apply, input, inputs, pick, unary, chain, no_expressions, expression, no_links, link}
-use Rattle.merge_decl.specs.Names.{Name}
-use Rattle.merge_decl.specs.Table.{find}
-use Rattle.rev_kinds.specs.Kinds.{Callee, Names, Locals, operand_kind, given_kind}
-use Rattle.rev_kinds.specs.Typing.{ScalarHas, ArrayHas, TakesLeft, TakesRightSide}
+use Rattle.name_tables.specs.Names.{Name}
+use Rattle.name_tables.specs.Table.{find}
+use Rattle.typed_programs.specs.Kinds.{Callee, Names, Locals, operand_kind, given_kind}
+use Rattle.typed_programs.specs.Typing.{ScalarHas, ArrayHas, TakesLeft, TakesRightSide}
 
 module _ (c : Names) (l : Locals) (Can : Name → Callee → Type 0) where
   abbrev mutual

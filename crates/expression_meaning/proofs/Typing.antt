@@ -9,10 +9,10 @@ use Rattle.rev_syntax.specs.Trees.{Parameter, Expression, placed, ExpressionForm
 use Rattle.rev_syntax.specs.Small.{name_formed, expression_formed, expression_form_formed, expressions_formed, links_formed, strength, all_bind, is_chain}
 use Rattle.rev_syntax.specs.declared.tree.BinaryOp.{BinaryOp}
 use Rattle.rev_syntax.specs.declared.tree.BinaryOp.TheVariants as b
-use Rattle.merge_decl.specs.Names.{Name}
-use Rattle.merge_decl.specs.FunRules.{count}
-use Rattle.rev_kinds.specs.Kinds.{Callee, Names, Locals, given_kind, links_kind}
-use Rattle.rev_kinds.specs.Typing.{TakesLeft, TakesFirst, TakesRightSide, HasKind, ExpressionFormHas, ArgsHave, LinksHave, IsOfKind}
+use Rattle.name_tables.specs.Names.{Name}
+use Rattle.typed_programs.specs.FunRules.{count}
+use Rattle.typed_programs.specs.Kinds.{Callee, Names, Locals, given_kind, links_kind}
+use Rattle.typed_programs.specs.Typing.{TakesLeft, TakesFirst, TakesRightSide, HasKind, ExpressionFormHas, ArgsHave, LinksHave, IsOfKind}
 use Rattle.expression_meaning.specs.Applying.{AllApply, FormApplies, ArgsApply, LinksApply}
 use Rattle.expression_meaning.proofs.Typed.{Typed, FormTyped, ArgsTyped, LinksTyped}
 

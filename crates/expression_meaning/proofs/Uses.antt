@@ -1,10 +1,10 @@
 -- Which applications a body has by its list of them.
 use Rattle.std.proofs.Common.{◌≡◌, ℕ, ◌++◌, Some, refl}
 use Rattle.rev_syntax.specs.Trees.{Expression, placed, ExpressionForm, Expressions, Links, int, bool, no_rev, var, cell, apply, input, inputs, pick, unary, chain, no_expressions, expression, no_links, link}
-use Rattle.merge_decl.specs.Names.{Name}
-use Rattle.merge_decl.specs.FunRules.{Use, expression_uses, expression_form_uses, expressions_uses, links_uses}
-use Rattle.rev_kinds.specs.Kinds.{Callee, Names}
-use Rattle.rev_kinds.proofs.Uses.{OfUses, uses_parts}
+use Rattle.name_tables.specs.Names.{Name}
+use Rattle.typed_programs.specs.FunRules.{Use, expression_uses, expression_form_uses, expressions_uses, links_uses}
+use Rattle.typed_programs.specs.Kinds.{Callee, Names}
+use Rattle.typed_programs.proofs.Uses.{OfUses, uses_parts}
 use Rattle.expression_meaning.specs.Applying.{AllApply, FormApplies, ArgsApply, LinksApply}
 
 -- ---- applications

@@ -16,10 +16,10 @@ use Rattle.rev_syntax.specs.declared.tree.UnaryOp.{UnaryOp}
 use Rattle.rev_syntax.specs.declared.tree.UnaryOp.TheVariants as u
 use Rattle.rev_syntax.specs.declared.tree.BinaryOp.{BinaryOp}
 use Rattle.rev_syntax.specs.declared.tree.BinaryOp.TheVariants as b
-use Rattle.merge_decl.specs.Value as value
-use Rattle.merge_decl.specs.Value.{Answer, operated, reversed}
-use Rattle.rev_kinds.specs.Kinds.{operand_kind, given_kind}
-use Rattle.rev_kinds.specs.Typing.{TakesLeft, TakesRightSide}
+use Rattle.typed_programs.specs.Value as value
+use Rattle.typed_programs.specs.Value.{Answer, operated, reversed}
+use Rattle.typed_programs.specs.Kinds.{operand_kind, given_kind}
+use Rattle.typed_programs.specs.Typing.{TakesLeft, TakesRightSide}
 use Rattle.rev_code.specs.declared.code.Instr.{Instr}
 use Rattle.rev_code.specs.declared.code.Instr.TheVariants as i
 use Rattle.rev_code.specs.declared.code.CodeBlock.{CodeBlock}

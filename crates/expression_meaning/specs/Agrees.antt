@@ -15,14 +15,14 @@ use Rattle.rev_num.specs.declared.value.ValueKind.{ValueKind}
 use Rattle.rev_num.specs.declared.outcome.Cause.{Cause}
 use Rattle.rev_num.specs.Value.{kind_of}
 use Rattle.rev_syntax.specs.Trees.{Parameter, Expression, Expressions}
-use Rattle.merge_decl.specs.FunRules.{count}
-use Rattle.merge_decl.specs.Names.{Name}
-use Rattle.merge_decl.specs.Table.{find}
-use Rattle.merge_decl.specs.Value as value
-use Rattle.merge_decl.specs.Value.{Answer, Env, Funs, called, value_by, values_by}
-use Rattle.rev_kinds.specs.declared.names.Holder.{Holder}
-use Rattle.rev_kinds.specs.Kinds.{Callee, Names, Locals}
-use Rattle.rev_kinds.specs.Typing.{HasKind, ArgsHave}
+use Rattle.typed_programs.specs.FunRules.{count}
+use Rattle.name_tables.specs.Names.{Name}
+use Rattle.name_tables.specs.Table.{find}
+use Rattle.typed_programs.specs.Value as value
+use Rattle.typed_programs.specs.Value.{Answer, Env, Funs, called, value_by, values_by}
+use Rattle.typed_programs.specs.declared.names.Holder.{Holder}
+use Rattle.typed_programs.specs.Kinds.{Callee, Names, Locals}
+use Rattle.typed_programs.specs.Typing.{HasKind, ArgsHave}
 use Rattle.rev_syntax.specs.Small.{expression_formed, expressions_formed}
 use Rattle.rev_code.specs.declared.code.BlockClass.TheVariants as class
 use Rattle.rev_code.specs.declared.code.CodeBlock.{CodeBlock}

@@ -6,13 +6,13 @@ use Rattle.rev_num.specs.declared.value.ValueKind.{ValueKind}
 use Rattle.rev_num.specs.declared.value.ValueKind.TheVariants as k
 use Rattle.rev_syntax.specs.Trees.{PlacedName, Parameter, Expression}
 use Rattle.rev_syntax.specs.Small.{expression_formed}
-use Rattle.merge_decl.specs.Names.{Name}
-use Rattle.merge_decl.specs.Definitions.{names_of}
-use Rattle.merge_decl.specs.Value.{Funs, inside, value_by}
-use Rattle.rev_kinds.specs.Kinds.{Names}
-use Rattle.rev_kinds.specs.Typing.{HasKind}
-use Rattle.rev_types.specs.Judgement.{ParamsNew}
-use Rattle.rev_types.specs.Scopes.{with_params, int_param}
+use Rattle.name_tables.specs.Names.{Name}
+use Rattle.typed_programs.specs.Definitions.{names_of}
+use Rattle.typed_programs.specs.Value.{Funs, inside, value_by}
+use Rattle.typed_programs.specs.Kinds.{Names}
+use Rattle.typed_programs.specs.Typing.{HasKind}
+use Rattle.typed_programs.specs.Judgement.{ParamsNew}
+use Rattle.typed_programs.specs.Scopes.{with_params, int_param}
 use Rattle.rev_code.specs.declared.code.Code.{Code}
 use Rattle.rev_code.specs.declared.code.CodeBlock.{CodeBlock}
 use Rattle.rev_code.specs.State.{Fun}

@@ -3,11 +3,11 @@ use Rattle.std.specs.Prelude.{◌≡◌, ℕ, ℤ, List, [], ◌∷◌, Some, sl
 use Rattle.rev_num.specs.Path.{Path}
 use Rattle.rev_num.specs.declared.value.Value.TheVariants as v
 use Rattle.rev_syntax.specs.Trees.{ProgramTree}
-use Rattle.merge_decl.specs.Names.{Name}
-use Rattle.merge_decl.specs.Definitions.{funs_in, MergeDef, merges_in, merged}
-use Rattle.merge_decl.specs.Value.{funs_of}
-use Rattle.rev_kinds.specs.Kinds.{Callee}
-use Rattle.rev_types.specs.Scopes.{fun_named}
+use Rattle.name_tables.specs.Names.{Name}
+use Rattle.typed_programs.specs.Definitions.{funs_in, MergeDef, merges_in, merged}
+use Rattle.typed_programs.specs.Value.{funs_of}
+use Rattle.typed_programs.specs.Kinds.{Callee}
+use Rattle.typed_programs.specs.Scopes.{fun_named}
 use Rattle.revision_calculus.specs.Kinded.{IsAccepted}
 use Rattle.rev_code.specs.Words.{int}
 use Rattle.rev_code.specs.Step.{value_at}

@@ -2,7 +2,7 @@
 -- statements behind it.
 use Rattle.std.specs.Prelude.{ℕ, ◌+◌}
 use Rattle.rev_syntax.specs.Trees.{Statements}
-use Rattle.rev_kinds.specs.Kinds.{Locals}
+use Rattle.typed_programs.specs.Kinds.{Locals}
 use Rattle.revision_calculus.specs.Program.{Setting}
 use Rattle.revision_calculus.specs.Step.{append}
 use Rattle.rev_code.specs.declared.code.CodeBlock.{CodeBlock}

@@ -14,10 +14,10 @@ use Rattle.rev_num.specs.Path.{Path}
 use Rattle.rev_num.specs.declared.value.ValueKind.{ValueKind}
 use Rattle.rev_syntax.specs.Trees.{Statement, Statements, no_statements, statements}
 use Rattle.rev_syntax.specs.Small.{statement_small, statements_small}
-use Rattle.merge_decl.specs.Names.{Name}
-use Rattle.merge_decl.specs.Table.{find}
-use Rattle.rev_kinds.specs.Kinds.{Locals}
-use Rattle.rev_types.specs.Judgement.{StatementTyped, StatementsTyped}
+use Rattle.name_tables.specs.Names.{Name}
+use Rattle.name_tables.specs.Table.{find}
+use Rattle.typed_programs.specs.Kinds.{Locals}
+use Rattle.typed_programs.specs.Judgement.{StatementTyped, StatementsTyped}
 use Rattle.revision_calculus.specs.Program.{Setting}
 use Rattle.revision_calculus.specs.Kinded.{names}
 use Rattle.rev_code.specs.declared.code.Instr.TheVariants as i

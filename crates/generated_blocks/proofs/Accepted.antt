@@ -2,7 +2,7 @@
 use Rattle.std.proofs.Common.{◌≡◌, ◌∙◌, [], None, Some, ap}
 use Rattle.std.specs.Prelude.{if◌then◌else◌}
 use Rattle.rev_syntax.specs.Trees.{ProgramTree}
-use Rattle.rev_types.proofs.Accepting.{kept_typed}
+use Rattle.typed_programs.proofs.Accepting.{kept_typed}
 use Rattle.revision_calculus.specs.Kinded.{IsAccepted}
 use Rattle.code_rules.specs.declared.Rule.TheVariants as rule
 use Rattle.code_rules.specs.Pass.{blocks_fault}

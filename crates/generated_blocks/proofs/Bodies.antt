@@ -5,10 +5,10 @@ use Rattle.rev_num.specs.declared.value.ValueKind.{ValueKind}
 use Rattle.rev_num.specs.declared.value.ValueKind.TheVariants as k
 use Rattle.rev_syntax.specs.Trees.{Parameter, Expression, statement, StatementForm, bind, assign, assign_cell, choose, choose_or, repeat, call, return, fork, join, print, assert, Statements, no_statements, statements}
 use Rattle.rev_syntax.specs.Small.{statements_small}
-use Rattle.rev_kinds.specs.Kinds.{Names, Locals}
-use Rattle.rev_types.specs.Judgement.{StatementsTyped}
-use Rattle.rev_types.specs.Limits.{StatementsPrint}
-use Rattle.rev_types.specs.Scopes as scopes
+use Rattle.typed_programs.specs.Kinds.{Names, Locals}
+use Rattle.typed_programs.specs.Judgement.{StatementsTyped}
+use Rattle.typed_programs.specs.Limits.{StatementsPrint}
+use Rattle.typed_programs.specs.Scopes as scopes
 use Rattle.rev_code.specs.declared.code.Instr.{Instr}
 use Rattle.rev_code.specs.declared.code.Instr.TheVariants as i
 use Rattle.rev_code.specs.declared.code.Code.{Code}

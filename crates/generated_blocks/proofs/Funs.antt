@@ -10,21 +10,21 @@ use Rattle.rev_num.specs.declared.value.ValueKind.{ValueKind}
 use Rattle.rev_num.specs.declared.value.ValueKind.TheVariants as k
 use Rattle.rev_syntax.specs.Trees.{PlacedName, Parameter, Expression, Declaration, fun, merge, shared, proc, ProgramTree}
 use Rattle.rev_syntax.specs.Small.{name_formed, expression_small, parameter_formed, declaration_small}
-use Rattle.merge_decl.specs.Names.{Name, same}
-use Rattle.merge_decl.specs.Table.{Table, find, added}
-use Rattle.merge_decl.specs.FunRules.{Use, expression_uses, statements_uses, later_here, broken_by, broken_in, declarations_uses, first_fun, head}
-use Rattle.merge_decl.specs.FunRules as rule
-use Rattle.merge_decl.specs.declared.expand.FunHead.{FunHead}
-use Rattle.merge_decl.specs.Weights.{expression_weight}
-use Rattle.merge_decl.proofs.Tables.{find-added, or_else, or_else-none}
-use Rattle.rev_kinds.specs.Kinds.{Callee, Names, Locals}
-use Rattle.rev_kinds.specs.Typing.{HasKind}
-use Rattle.rev_kinds.proofs.Lists.{parts, failed, and_parts}
-use Rattle.rev_types.specs.Scopes as scopes
-use Rattle.rev_types.specs.Scopes.{fun_named, outside, within}
-use Rattle.rev_types.specs.Judgement.{ParamsNew, DeclarationsTyped}
-use Rattle.rev_types.specs.Limits.{funs, DeclarationsWithin}
-use Rattle.rev_types.proofs.Applying.{broken_parts, small_formed}
+use Rattle.name_tables.specs.Names.{Name, same}
+use Rattle.name_tables.specs.Table.{Table, find, added}
+use Rattle.typed_programs.specs.FunRules.{Use, expression_uses, statements_uses, later_here, broken_by, broken_in, declarations_uses, first_fun, head}
+use Rattle.typed_programs.specs.FunRules as rule
+use Rattle.typed_programs.specs.declared.expanded.FunHead.{FunHead}
+use Rattle.typed_programs.specs.Weights.{expression_weight}
+use Rattle.name_tables.proofs.Tables.{find-added, or_else, or_else-none}
+use Rattle.typed_programs.specs.Kinds.{Callee, Names, Locals}
+use Rattle.typed_programs.specs.Typing.{HasKind}
+use Rattle.typed_programs.proofs.Lists.{parts, failed, and_parts}
+use Rattle.typed_programs.specs.Scopes as scopes
+use Rattle.typed_programs.specs.Scopes.{fun_named, outside, within}
+use Rattle.typed_programs.specs.Judgement.{ParamsNew, DeclarationsTyped}
+use Rattle.typed_programs.specs.Limits.{funs, DeclarationsWithin}
+use Rattle.typed_programs.proofs.Applying.{broken_parts, small_formed}
 use Rattle.rev_code.specs.declared.code.Code.{Code}
 use Rattle.rev_code.specs.declared.code.CodeBlock.{CodeBlock}
 use Rattle.rev_code.specs.declared.code.Instr.TheVariants as i
@@ -40,9 +40,9 @@ use Rattle.code_generation.proofs.Inside.{jumps_stay}
 use Rattle.expression_meaning.specs.Blocks.{merge_params}
 use Rattle.expression_meaning.proofs.Typed.{Typed}
 use Rattle.expression_meaning.proofs.Typing.{typed}
-use Rattle.merge_decl.proofs.Firsts.{first_from}
-use Rattle.rev_types.proofs.MergeParams.{merge_new}
-use Rattle.rev_kinds.proofs.Uses.{OfUses, uses_fine}
+use Rattle.typed_programs.proofs.Firsts.{first_from}
+use Rattle.typed_programs.proofs.MergeParams.{merge_new}
+use Rattle.typed_programs.proofs.Uses.{OfUses, uses_fine}
 use Rattle.expression_meaning.proofs.Uses.{Use_can, applies}
 use Rattle.generated_certificates.specs.Expressions.{expression_depth}
 use Rattle.generated_certificates.specs.Means.{FunMeans, NamesMean}

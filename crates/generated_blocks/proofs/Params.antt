@@ -1,10 +1,10 @@
 -- Behind its parameters a body means what it means in the program.
 use Rattle.std.proofs.Common.{ℕ, suc, List, [], ◌∷◌, Some}
 use Rattle.rev_syntax.specs.Trees.{Parameter}
-use Rattle.merge_decl.specs.Table.{added}
-use Rattle.rev_kinds.specs.Kinds.{Names, Locals}
-use Rattle.rev_types.specs.Judgement.{ParamsNew}
-use Rattle.rev_types.specs.Scopes as scopes
+use Rattle.name_tables.specs.Table.{added}
+use Rattle.typed_programs.specs.Kinds.{Names, Locals}
+use Rattle.typed_programs.specs.Judgement.{ParamsNew}
+use Rattle.typed_programs.specs.Scopes as scopes
 use Rattle.rev_code.specs.declared.code.Code.{Code}
 use Rattle.rev_code.specs.declared.code.CodeBlock.{CodeBlock}
 use Rattle.code_generation.specs.Numbers.{Numbers, Scope, with_params}

@@ -5,19 +5,19 @@ use Rattle.std.specs.List.{list_all}
 use Rattle.rev_num.specs.declared.value.ValueKind.{ValueKind}
 use Rattle.rev_syntax.specs.Trees.{Parameter, Statements, Declaration, fun, merge, shared, proc, ProgramTree}
 use Rattle.rev_syntax.specs.Small.{name_formed, parameter_formed, statements_small, declaration_small}
-use Rattle.merge_decl.specs.Names.{Name, same}
-use Rattle.merge_decl.specs.Table.{Table}
-use Rattle.merge_decl.specs.FunRules.{first_fun, head}
-use Rattle.merge_decl.specs.declared.expand.FunHead.{FunHead}
-use Rattle.merge_decl.specs.Weights.{weights_with}
-use Rattle.rev_kinds.specs.declared.names.Holder.{Holder}
-use Rattle.rev_kinds.specs.Kinds.{Callee, Names, Locals}
-use Rattle.rev_kinds.proofs.Lists.{and_parts}
-use Rattle.rev_types.specs.Scopes as scopes
-use Rattle.rev_types.specs.Scopes.{fun_named, proc_named, shared_named, outside, within, holder}
-use Rattle.rev_types.specs.Judgement.{ParamsNew, StatementsTyped, DeclarationsTyped}
-use Rattle.rev_types.specs.Limits.{BodyWithin, StatementsPrint, DeclarationsWithin}
-use Rattle.rev_types.specs.Layout.{SharedVariable, variable_behind, variables_behind, procedures}
+use Rattle.name_tables.specs.Names.{Name, same}
+use Rattle.name_tables.specs.Table.{Table}
+use Rattle.typed_programs.specs.FunRules.{first_fun, head}
+use Rattle.typed_programs.specs.declared.expanded.FunHead.{FunHead}
+use Rattle.typed_programs.specs.Weights.{weights_with}
+use Rattle.typed_programs.specs.declared.names.Holder.{Holder}
+use Rattle.typed_programs.specs.Kinds.{Callee, Names, Locals}
+use Rattle.typed_programs.proofs.Lists.{and_parts}
+use Rattle.typed_programs.specs.Scopes as scopes
+use Rattle.typed_programs.specs.Scopes.{fun_named, proc_named, shared_named, outside, within, holder}
+use Rattle.typed_programs.specs.Judgement.{ParamsNew, StatementsTyped, DeclarationsTyped}
+use Rattle.typed_programs.specs.Limits.{BodyWithin, StatementsPrint, DeclarationsWithin}
+use Rattle.typed_programs.specs.Layout.{SharedVariable, variable_behind, variables_behind, procedures}
 use Rattle.revision_calculus.specs.Program.{procedure_named}
 use Rattle.rev_code.specs.declared.code.Code.{Code}
 use Rattle.rev_code.specs.declared.code.CodeBlock.{CodeBlock}

@@ -5,11 +5,11 @@ use Rattle.rev_syntax.specs.declared.tree.UnaryOp.{UnaryOp}
 use Rattle.rev_syntax.specs.declared.tree.UnaryOp.TheVariants as u
 use Rattle.rev_syntax.specs.declared.tree.BinaryOp.{BinaryOp}
 use Rattle.rev_syntax.specs.declared.tree.BinaryOp.TheVariants as b
-use Rattle.merge_decl.specs.Names.{Name}
-use Rattle.merge_decl.specs.Table.{Table, find}
-use Rattle.merge_decl.specs.Weights.{known_weight, expression_weight, expression_form_weight, expressions_weight, links_weight}
+use Rattle.name_tables.specs.Names.{Name}
+use Rattle.name_tables.specs.Table.{Table, find}
+use Rattle.typed_programs.specs.Weights.{known_weight, expression_weight, expression_form_weight, expressions_weight, links_weight}
 use Rattle.rev_num.specs.declared.value.ValueKind.{ValueKind}
-use Rattle.rev_kinds.specs.Kinds.{Callee, Names, Locals, given_kind}
+use Rattle.typed_programs.specs.Kinds.{Callee, Names, Locals, given_kind}
 use Rattle.rev_code.specs.declared.code.Instr.{Instr}
 use Rattle.rev_code.specs.declared.code.Instr.TheVariants as i
 use Rattle.code_rules.specs.declared.Cost.{Cost}

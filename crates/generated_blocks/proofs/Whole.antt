@@ -2,11 +2,11 @@
 use Rattle.std.proofs.Common.{◌≡◌, ℕ, List, [], length, None}
 use Rattle.rev_syntax.specs.Trees.{ProgramTree}
 use Rattle.rev_syntax.specs.Small.{IsSmall}
-use Rattle.merge_decl.specs.FunRules.{fun_faults, statements_uses, declarations_uses}
-use Rattle.merge_decl.specs.FunRules as rule
-use Rattle.rev_types.specs.Accepted.{IsWellTyped}
-use Rattle.rev_types.specs.Scopes.{outside}
-use Rattle.rev_types.proofs.Applying.{broken_parts}
+use Rattle.typed_programs.specs.FunRules.{fun_faults, statements_uses, declarations_uses}
+use Rattle.typed_programs.specs.FunRules as rule
+use Rattle.typed_programs.specs.Accepted.{IsWellTyped}
+use Rattle.typed_programs.specs.Scopes.{outside}
+use Rattle.typed_programs.proofs.Applying.{broken_parts}
 use Rattle.rev_code.specs.declared.code.CodeBlock.{CodeBlock}
 use Rattle.code_rules.specs.declared.Cost.{Cost}
 use Rattle.code_rules.specs.Pass.{blocks_fault}

@@ -2,8 +2,8 @@
 use Rattle.std.specs.Prelude.{◌≡◌, [], None}
 use Rattle.rev_syntax.specs.Trees.{ProgramTree}
 use Rattle.rev_syntax.specs.Small.{IsSmall}
-use Rattle.merge_decl.specs.FunRules.{fun_faults}
-use Rattle.rev_types.specs.Accepted.{IsWellTyped}
+use Rattle.typed_programs.specs.FunRules.{fun_faults}
+use Rattle.typed_programs.specs.Accepted.{IsWellTyped}
 use Rattle.revision_calculus.specs.Kinded.{IsAccepted}
 use Rattle.code_rules.specs.Pass.{blocks_fault}
 use Rattle.code_rules.specs.Verdict.{first_fault}

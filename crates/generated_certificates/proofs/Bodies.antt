@@ -5,13 +5,13 @@ use Rattle.rev_num.specs.declared.value.ValueKind.{ValueKind}
 use Rattle.rev_num.specs.declared.value.ValueKind.TheVariants as k
 use Rattle.rev_syntax.specs.Trees.{Expression, Expressions, RightSide, plain, called, forked, tried, PrintItem, text, shown, no_expressions, expression, Statement, statement, StatementForm, bind, assign, assign_cell, choose, choose_or, repeat, call, return, fork, join, print, assert, Statements, no_statements, statements, Arms, no_arms, arm}
 use Rattle.rev_syntax.specs.Small.{name_formed, expression_small, expressions_small, right_side_small, statement_small, statement_form_small, statements_small, arms_small}
-use Rattle.merge_decl.specs.Table.{find, added}
-use Rattle.rev_kinds.specs.Kinds.{Callee, Names, Locals}
-use Rattle.rev_kinds.specs.Typing.{HasKind}
-use Rattle.rev_types.specs.Judgement.{RightSideHas, StatementTyped, StatementFormTyped, StatementsTyped, ArmsTyped}
-use Rattle.rev_types.specs.Limits.{StatementPrints, StatementFormPrints, StatementsPrint, ArmsPrint, statement_lets, statements_lets, arms_lets}
-use Rattle.rev_types.specs.Scopes.{locals_after}
-use Rattle.rev_types.proofs.Scopes.{right_side_is, statement_scope}
+use Rattle.name_tables.specs.Table.{find, added}
+use Rattle.typed_programs.specs.Kinds.{Callee, Names, Locals}
+use Rattle.typed_programs.specs.Typing.{HasKind}
+use Rattle.typed_programs.specs.Judgement.{RightSideHas, StatementTyped, StatementFormTyped, StatementsTyped, ArmsTyped}
+use Rattle.typed_programs.specs.Limits.{StatementPrints, StatementFormPrints, StatementsPrint, ArmsPrint, statement_lets, statements_lets, arms_lets}
+use Rattle.typed_programs.specs.Scopes.{locals_after}
+use Rattle.typed_programs.proofs.Scopes.{right_side_is, statement_scope}
 use Rattle.rev_code.specs.declared.code.Instr.{Instr}
 use Rattle.rev_code.specs.declared.code.Instr.TheVariants as i
 use Rattle.rev_code.specs.declared.code.Code.{Code}
@@ -40,7 +40,7 @@ use Rattle.generated_certificates.proofs.WordKinds.{kind_is}
 use Rattle.generated_certificates.proofs.Places.{if_false, jumps_on, jumps_back}
 use Rattle.generated_certificates.proofs.Scopes.{name_bound}
 use Rattle.generated_certificates.proofs.Pieces.{ReturnSmall, empty_fits, term_typed, term_kept, takes_one, into_local, stores, cell_stores, checks, charges, returned_kept, calls, forks_one, pops, dropped_kept, right_is, right_kept, items_kept, items_behind, prints}
-use Rattle.rev_kinds.proofs.Lists.{and_parts}
+use Rattle.typed_programs.proofs.Lists.{and_parts}
 
 return_small : (e : Option Expression) → statement_form_small (return e) ≡ true → ReturnSmall e
 return_small None s = tt

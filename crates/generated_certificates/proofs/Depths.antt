@@ -5,10 +5,10 @@ use Rattle.std.proofs.lemmas.Bool.Decides.{nat_tests}
 use Rattle.rev_num.specs.declared.value.ValueKind.{ValueKind}
 use Rattle.rev_syntax.specs.Trees.{Parameter, Expression, placed, ExpressionForm, Expressions, Links, int, bool, no_rev, var, cell, apply, input, inputs, pick, unary, chain, no_expressions, expression, no_links, link}
 use Rattle.rev_syntax.specs.Small.{nodes_around, nodes_around_part, nodes_around_args, nodes_around_links, chains_around, chains_around_part, chains_around_args, chains_around_links, expression_formed, expression_small, expressions_small}
-use Rattle.merge_decl.specs.Names.{Name}
-use Rattle.rev_kinds.specs.Kinds.{Callee, Names, Locals, given_kind}
+use Rattle.name_tables.specs.Names.{Name}
+use Rattle.typed_programs.specs.Kinds.{Callee, Names, Locals, given_kind}
 use Rattle.expression_meaning.proofs.Typed.{Typed, FormTyped, ArgsTyped, LinksTyped}
-use Rattle.rev_kinds.proofs.Lists.{and_parts}
+use Rattle.typed_programs.proofs.Lists.{and_parts}
 use Rattle.generated_certificates.specs.Expressions.{expression_depth, form_depth, expressions_depth, links_depth}
 
 module _ (c : Names) (l : Locals) (Can : Name → Callee → Type 0)

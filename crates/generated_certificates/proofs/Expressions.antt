@@ -11,11 +11,11 @@ use Rattle.rev_syntax.specs.declared.tree.UnaryOp.{UnaryOp}
 use Rattle.rev_syntax.specs.declared.tree.UnaryOp.TheVariants as u
 use Rattle.rev_syntax.specs.declared.tree.BinaryOp.{BinaryOp}
 use Rattle.rev_syntax.specs.declared.tree.BinaryOp.TheVariants as b
-use Rattle.merge_decl.specs.Names.{Name}
-use Rattle.merge_decl.specs.Table.{find}
-use Rattle.rev_kinds.specs.declared.names.Holder.{Holder}
-use Rattle.rev_kinds.specs.Kinds.{Callee, Names, Locals, operand_kind, given_kind}
-use Rattle.rev_kinds.specs.Typing.{ScalarHas, ArrayHas, TakesLeft, TakesRightSide, HasKind}
+use Rattle.name_tables.specs.Names.{Name}
+use Rattle.name_tables.specs.Table.{find}
+use Rattle.typed_programs.specs.declared.names.Holder.{Holder}
+use Rattle.typed_programs.specs.Kinds.{Callee, Names, Locals, operand_kind, given_kind}
+use Rattle.typed_programs.specs.Typing.{ScalarHas, ArrayHas, TakesLeft, TakesRightSide, HasKind}
 use Rattle.rev_code.specs.declared.code.Instr.{Instr}
 use Rattle.rev_code.specs.declared.code.Instr.TheVariants as i
 use Rattle.rev_code.specs.declared.code.Code.{Code}

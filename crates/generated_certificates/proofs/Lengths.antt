@@ -5,7 +5,7 @@ use Rattle.rev_num.specs.declared.value.ValueKind.TheVariants as k
 use Rattle.rev_syntax.specs.Trees.{Expression, placed, ExpressionForm, Expressions, Links, int, bool, no_rev, var, cell, apply, input, inputs, pick, unary, chain, no_expressions, expression, no_links, link}
 use Rattle.rev_syntax.specs.declared.tree.BinaryOp.{BinaryOp}
 use Rattle.rev_syntax.specs.declared.tree.BinaryOp.TheVariants as b
-use Rattle.rev_kinds.specs.Kinds.{Names, Locals, operand_kind, given_kind}
+use Rattle.typed_programs.specs.Kinds.{Names, Locals, operand_kind, given_kind}
 use Rattle.code_rules.specs.Pass.{Note}
 use Rattle.code_generation.specs.Expressions.{expression_size, form_size, expressions_size, links_size, link_size}
 use Rattle.code_generation.proofs.Lengths.{two, and_one, around}

@@ -8,10 +8,10 @@ use Rattle.rev_num.specs.declared.value.ValueKind.TheVariants as k
 use Rattle.rev_syntax.specs.Bytes as byte
 use Rattle.rev_syntax.specs.Trees.{PrintItem, text, shown, Statement, statement, StatementForm, bind, assign, assign_cell, choose, choose_or, repeat, call, return, fork, join, print, assert, Statements, no_statements, statements, Arms, no_arms, arm}
 use Rattle.rev_syntax.specs.Small.{expression_small, item_small, items_count, statement_count, statement_form_count, statements_count, arms_count, statement_small, statement_form_small, statements_small, arms_small}
-use Rattle.rev_kinds.specs.Kinds.{Names, Locals, kind_in}
-use Rattle.rev_kinds.proofs.Lists.{and_parts}
-use Rattle.rev_types.specs.Limits.{StatementPrints, StatementFormPrints, StatementsPrint, ArmsPrint}
-use Rattle.rev_types.specs.Scopes.{locals_after}
+use Rattle.typed_programs.specs.Kinds.{Names, Locals, kind_in}
+use Rattle.typed_programs.proofs.Lists.{and_parts}
+use Rattle.typed_programs.specs.Limits.{StatementPrints, StatementFormPrints, StatementsPrint, ArmsPrint}
+use Rattle.typed_programs.specs.Scopes.{locals_after}
 use Rattle.rev_code.specs.declared.code.LayoutItem.{LayoutItem}
 use Rattle.code_rules.specs.Tables.{is_text_byte, is_item, is_small_text, is_small_layout}
 use Rattle.code_generation.specs.Prints.{value_item, layout_of, items_texts, statement_texts, statement_form_texts, statements_texts, arms_texts, statement_layouts, statement_form_layouts, statements_layouts, arms_layouts}

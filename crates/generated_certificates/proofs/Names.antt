@@ -9,7 +9,7 @@ use Rattle.rev_syntax.specs.declared.token.Fixed.{Fixed}
 use Rattle.rev_syntax.specs.declared.token.Fixed.TheVariants as s
 use Rattle.rev_syntax.specs.Words as word
 use Rattle.rev_syntax.specs.Bytes as byte
-use Rattle.rev_kinds.proofs.Lists.{and_parts}
+use Rattle.typed_programs.proofs.Lists.{and_parts}
 use Rattle.code_rules.specs.Tables as table
 use Rattle.code_generation.proofs.BlockRules.{both}
 

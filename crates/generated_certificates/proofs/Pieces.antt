@@ -9,13 +9,13 @@ use Rattle.rev_num.specs.declared.value.ValueKind.{ValueKind}
 use Rattle.rev_num.specs.declared.value.ValueKind.TheVariants as k
 use Rattle.rev_syntax.specs.Trees.{PlacedName, Expression, Expressions, no_expressions, expression, RightSide, plain, called, forked, tried, PrintItem, text, shown}
 use Rattle.rev_syntax.specs.Small.{name_formed, nodes_around, chains_around, expression_formed, expressions_formed, expression_small, expressions_small, right_side_small, item_small}
-use Rattle.merge_decl.specs.Names.{Name}
-use Rattle.merge_decl.specs.Table.{find}
-use Rattle.rev_kinds.specs.declared.names.Holder.{Holder}
-use Rattle.rev_kinds.specs.Kinds.{Callee, Names, Locals, result_of}
-use Rattle.rev_kinds.specs.Typing.{ScalarHas, ArrayHas, HasKind}
-use Rattle.rev_kinds.proofs.Typings.{complete}
-use Rattle.rev_types.specs.Judgement.{CallTyped, RightSideHas, ItemsTyped, ReturnTyped}
+use Rattle.name_tables.specs.Names.{Name}
+use Rattle.name_tables.specs.Table.{find}
+use Rattle.typed_programs.specs.declared.names.Holder.{Holder}
+use Rattle.typed_programs.specs.Kinds.{Callee, Names, Locals, result_of}
+use Rattle.typed_programs.specs.Typing.{ScalarHas, ArrayHas, HasKind}
+use Rattle.typed_programs.proofs.Typings.{complete}
+use Rattle.typed_programs.specs.Judgement.{CallTyped, RightSideHas, ItemsTyped, ReturnTyped}
 use Rattle.rev_code.specs.declared.code.Instr.{Instr}
 use Rattle.rev_code.specs.declared.code.Instr.TheVariants as i
 use Rattle.rev_code.specs.declared.code.Code.{Code}
@@ -37,7 +37,7 @@ use Rattle.code_generation.specs.Stands.{HasAt, HasItems}
 use Rattle.code_generation.proofs.Standing.{parts_stand}
 use Rattle.code_generation.proofs.Lengths.{expression_length, expressions_length}
 use Rattle.expression_meaning.proofs.Typed.{Typed, ArgsTyped}
-use Rattle.rev_kinds.proofs.Lists.{and_parts}
+use Rattle.typed_programs.proofs.Lists.{and_parts}
 use Rattle.expression_meaning.proofs.Applying.{all_apply, args_apply}
 use Rattle.expression_meaning.proofs.Typing.{typed, args_typed}
 use Rattle.generated_certificates.specs.Items.{noted, push, charged}

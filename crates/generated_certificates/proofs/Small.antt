@@ -6,15 +6,15 @@ use Rattle.std.proofs.lemmas.Bool.Decides.{nat_tests}
 use Rattle.rev_num.specs.declared.value.ValueKind.{ValueKind}
 use Rattle.rev_syntax.specs.Trees.{Parameter, Expression, Statements, Declaration, fun, merge, shared, proc, ProgramTree}
 use Rattle.rev_syntax.specs.Small.{name_formed, parameter_formed, expression_count, statements_count, declarations_count, count, statements_small, declaration_small, IsSmall}
-use Rattle.merge_decl.specs.Table.{Table}
-use Rattle.merge_decl.specs.Weights.{weights_with}
-use Rattle.rev_kinds.specs.Kinds.{Names}
-use Rattle.rev_kinds.proofs.Lists.{and_parts}
-use Rattle.rev_types.specs.Accepted.{IsWellTyped}
-use Rattle.rev_types.specs.Limits.{procs, statements_lets, BodyWithin, DeclarationsWithin}
-use Rattle.rev_types.specs.Layout.{variables_behind, variables}
-use Rattle.rev_types.specs.Scopes as scopes
-use Rattle.rev_types.specs.Scopes.{outside, within}
+use Rattle.name_tables.specs.Table.{Table}
+use Rattle.typed_programs.specs.Weights.{weights_with}
+use Rattle.typed_programs.specs.Kinds.{Names}
+use Rattle.typed_programs.proofs.Lists.{and_parts}
+use Rattle.typed_programs.specs.Accepted.{IsWellTyped}
+use Rattle.typed_programs.specs.Limits.{procs, statements_lets, BodyWithin, DeclarationsWithin}
+use Rattle.typed_programs.specs.Layout.{variables_behind, variables}
+use Rattle.typed_programs.specs.Scopes as scopes
+use Rattle.typed_programs.specs.Scopes.{outside, within}
 use Rattle.rev_code.specs.declared.code.CodeBlock.{CodeBlock}
 use Rattle.rev_code.specs.Step.{is_procedure}
 use Rattle.code_rules.specs.Pass.{is_value_class}

@@ -12,15 +12,15 @@ use Rattle.rev_num.specs.Value.{kind_of, same_kind}
 use Rattle.rev_num.proofs.Lists.{get_append_left}
 use Rattle.rev_syntax.specs.Trees.{PlacedName, Constant, ArraySize, SharedDeclaration, Expression, Declaration, fun, merge, shared, proc}
 use Rattle.rev_syntax.specs.Small.{name_formed, by_formed, size_formed, first_formed, declaration_small}
-use Rattle.merge_decl.specs.Least.{Among}
-use Rattle.merge_decl.specs.Names.{Name, same}
-use Rattle.merge_decl.proofs.Firsts.{more_among}
-use Rattle.rev_kinds.specs.Kinds.{Names}
-use Rattle.rev_kinds.proofs.Lists.{and_parts}
-use Rattle.rev_types.specs.Limits.{cells, funs}
-use Rattle.rev_types.specs.Layout.{merge_at, merge_of, variable_behind, variables_behind}
-use Rattle.rev_types.specs.Scopes.{size_cells, cells_of}
-use Rattle.rev_types.specs.Judgement.{ByTyped, SizeTyped, FirstTyped, SharedTyped, DeclarationsTyped}
+use Rattle.typed_programs.specs.Least.{Among}
+use Rattle.name_tables.specs.Names.{Name, same}
+use Rattle.typed_programs.proofs.Firsts.{more_among}
+use Rattle.typed_programs.specs.Kinds.{Names}
+use Rattle.typed_programs.proofs.Lists.{and_parts}
+use Rattle.typed_programs.specs.Limits.{cells, funs}
+use Rattle.typed_programs.specs.Layout.{merge_at, merge_of, variable_behind, variables_behind}
+use Rattle.typed_programs.specs.Scopes.{size_cells, cells_of}
+use Rattle.typed_programs.specs.Judgement.{ByTyped, SizeTyped, FirstTyped, SharedTyped, DeclarationsTyped}
 use Rattle.revision_calculus.specs.Program.{constant_value, first_value}
 use Rattle.rev_code.specs.declared.code.Code.{Code}
 use Rattle.rev_code.specs.declared.code.CodeBlock.{CodeBlock}

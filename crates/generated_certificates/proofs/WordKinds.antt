@@ -2,11 +2,11 @@
 use Rattle.std.proofs.Common.{◌≡◌, ◌∙◌, Option, Some, None, sym, ap}
 use Rattle.rev_num.specs.declared.value.ValueKind.{ValueKind}
 use Rattle.rev_syntax.specs.Trees.{Expression, placed, ExpressionForm, Links, int, bool, no_rev, var, cell, apply, input, inputs, pick, unary, chain, no_links, link}
-use Rattle.merge_decl.specs.Names.{Name}
-use Rattle.merge_decl.specs.Table.{find}
-use Rattle.rev_kinds.specs.declared.names.Holder.{Holder}
-use Rattle.rev_kinds.specs.Kinds.{Callee, Names, Locals, name_kind, result_of, given_kind}
-use Rattle.rev_kinds.specs.Typing.{ScalarHas, ArrayHas}
+use Rattle.name_tables.specs.Names.{Name}
+use Rattle.name_tables.specs.Table.{find}
+use Rattle.typed_programs.specs.declared.names.Holder.{Holder}
+use Rattle.typed_programs.specs.Kinds.{Callee, Names, Locals, name_kind, result_of, given_kind}
+use Rattle.typed_programs.specs.Typing.{ScalarHas, ArrayHas}
 use Rattle.code_rules.specs.Shapes.{kind_or_int}
 use Rattle.expression_meaning.proofs.Typed.{Typed, FormTyped, LinksTyped}
 use Rattle.generated_certificates.specs.Expressions.{links_give, word_kind, form_kind}

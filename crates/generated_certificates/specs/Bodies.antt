@@ -4,8 +4,8 @@
 --   Tables      kinds of locals and layouts, from the numbers on that the statements have
 use Rattle.std.specs.Prelude.{◌≡◌, ◌≤◌, ℕ, true, false, is_some, length, slice_get, Some}
 use Rattle.rev_syntax.specs.Trees.{Statements}
-use Rattle.merge_decl.specs.Names.{Name}
-use Rattle.rev_kinds.specs.Kinds.{Callee, Names, Locals}
+use Rattle.name_tables.specs.Names.{Name}
+use Rattle.typed_programs.specs.Kinds.{Callee, Names, Locals}
 use Rattle.rev_code.specs.declared.code.Code.{Code}
 use Rattle.rev_code.specs.declared.code.CodeBlock.{CodeBlock}
 use Rattle.rev_code.specs.Step.{params, is_procedure}

@@ -9,8 +9,8 @@ use Rattle.rev_num.specs.declared.value.ValueKind.TheVariants as k
 use Rattle.rev_syntax.specs.Trees.{Expression, placed, ExpressionForm, Expressions, Links, int, bool, no_rev, var, cell, apply, input, inputs, pick, unary, chain, no_expressions, expression, no_links, link}
 use Rattle.rev_syntax.specs.declared.tree.BinaryOp.{BinaryOp}
 use Rattle.rev_syntax.specs.declared.tree.BinaryOp.TheVariants as b
-use Rattle.merge_decl.specs.Table.{find}
-use Rattle.rev_kinds.specs.Kinds.{Names, Locals, name_kind, result_of, operand_kind, given_kind}
+use Rattle.name_tables.specs.Table.{find}
+use Rattle.typed_programs.specs.Kinds.{Names, Locals, name_kind, result_of, operand_kind, given_kind}
 use Rattle.code_rules.specs.Pass.{Note}
 use Rattle.code_rules.specs.Shapes.{kind_or_int}
 use Rattle.generated_certificates.specs.Items.{push}

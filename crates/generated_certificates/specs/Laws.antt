@@ -3,8 +3,8 @@ use Rattle.std.specs.Prelude.{◌≡◌, ◌≤◌, ℕ, ◌+◌, true, List, le
 use Rattle.rev_num.specs.declared.value.ValueKind.{ValueKind}
 use Rattle.rev_syntax.specs.Trees.{Expression}
 use Rattle.rev_syntax.specs.Small.{expression_formed}
-use Rattle.rev_kinds.specs.Kinds.{Names, Locals}
-use Rattle.rev_kinds.specs.Typing.{HasKind}
+use Rattle.typed_programs.specs.Kinds.{Names, Locals}
+use Rattle.typed_programs.specs.Typing.{HasKind}
 use Rattle.rev_code.specs.declared.code.Code.{Code}
 use Rattle.rev_code.specs.declared.code.CodeBlock.{CodeBlock}
 use Rattle.code_rules.specs.Pass.{Note}

@@ -3,9 +3,9 @@ use Rattle.std.specs.Prelude.{◌≡◌, ℕ, ◌+◌, true, Option, List}
 use Rattle.rev_num.specs.declared.value.ValueKind.{ValueKind}
 use Rattle.rev_syntax.specs.Trees.{Statements}
 use Rattle.rev_syntax.specs.Small.{statements_small}
-use Rattle.rev_kinds.specs.Kinds.{Names, Locals}
-use Rattle.rev_types.specs.Judgement.{StatementsTyped}
-use Rattle.rev_types.specs.Limits.{StatementsPrint}
+use Rattle.typed_programs.specs.Kinds.{Names, Locals}
+use Rattle.typed_programs.specs.Judgement.{StatementsTyped}
+use Rattle.typed_programs.specs.Limits.{StatementsPrint}
 use Rattle.rev_code.specs.declared.code.Code.{Code}
 use Rattle.rev_code.specs.declared.code.CodeBlock.{CodeBlock}
 use Rattle.code_rules.specs.Pass.{Note, entry, most_words}

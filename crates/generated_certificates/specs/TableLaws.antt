@@ -2,7 +2,7 @@
 use Rattle.std.specs.Prelude.{◌≡◌, true}
 use Rattle.rev_syntax.specs.Trees.{ProgramTree}
 use Rattle.rev_syntax.specs.Small.{IsSmall}
-use Rattle.rev_types.specs.Accepted.{IsWellTyped}
+use Rattle.typed_programs.specs.Accepted.{IsWellTyped}
 use Rattle.code_rules.specs.Tables.{names_well, is_small}
 use Rattle.code_generation.specs.Generated.{code_of}
 

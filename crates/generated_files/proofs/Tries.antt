@@ -4,8 +4,8 @@ use Rattle.std.proofs.lemmas.List.Sums.{sum_by-cons, sum_by-append}
 use Rattle.rev_num.specs.declared.value.ValueKind.{ValueKind}
 use Rattle.rev_syntax.specs.Trees.{Parameter, Expression, Statements, Declaration, fun, merge, shared, proc, ProgramTree}
 use Rattle.rev_syntax.specs.Small.{expression_count, statements_count, declarations_count, count, IsSmall}
-use Rattle.rev_kinds.specs.Kinds.{Names}
-use Rattle.rev_types.specs.Scopes.{outside}
+use Rattle.typed_programs.specs.Kinds.{Names}
+use Rattle.typed_programs.specs.Scopes.{outside}
 use Rattle.rev_code.specs.declared.code.CodeBlock.{CodeBlock}
 use Rattle.rev_code.specs.declared.code.Instr.{Instr}
 use Rattle.rev_code.specs.declared.code.Instr.TheVariants as i

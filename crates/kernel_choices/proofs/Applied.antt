@@ -7,16 +7,16 @@ use Rattle.rev_syntax.specs.declared.tree.UnaryOp.{UnaryOp}
 use Rattle.rev_syntax.specs.declared.tree.UnaryOp.TheVariants as u
 use Rattle.rev_syntax.specs.declared.tree.BinaryOp.{BinaryOp}
 use Rattle.rev_syntax.specs.declared.tree.BinaryOp.TheVariants as b
-use Rattle.merge_decl.specs.Names.{Name, same}
-use Rattle.merge_decl.specs.Table.{find, added}
-use Rattle.merge_decl.specs.FunRules.{expression_uses, expression_form_uses, links_uses}
-use Rattle.merge_decl.specs.Value.{FunDef}
-use Rattle.merge_decl.specs.Definitions.{fun_def, MergeDef, merges_after, merges_in}
-use Rattle.merge_decl.proofs.Tables.{or_else, find-added}
-use Rattle.rev_kinds.specs.Kinds.{Names, Locals, operand_kind}
-use Rattle.rev_kinds.specs.Typing.{ScalarHas, ArrayHas, TakesLeft, TakesRightSide, TakesFirst, HasKind, ExpressionFormHas, LinksHave}
-use Rattle.rev_types.specs.Scopes.{outside, within, merge_locals}
-use Rattle.rev_types.specs.Judgement.{DeclarationsTyped}
+use Rattle.name_tables.specs.Names.{Name, same}
+use Rattle.name_tables.specs.Table.{find, added}
+use Rattle.typed_programs.specs.FunRules.{expression_uses, expression_form_uses, links_uses}
+use Rattle.typed_programs.specs.Value.{FunDef}
+use Rattle.typed_programs.specs.Definitions.{fun_def, MergeDef, merges_after, merges_in}
+use Rattle.name_tables.proofs.Tables.{or_else, find-added}
+use Rattle.typed_programs.specs.Kinds.{Names, Locals, operand_kind}
+use Rattle.typed_programs.specs.Typing.{ScalarHas, ArrayHas, TakesLeft, TakesRightSide, TakesFirst, HasKind, ExpressionFormHas, LinksHave}
+use Rattle.typed_programs.specs.Scopes.{outside, within, merge_locals}
+use Rattle.typed_programs.specs.Judgement.{DeclarationsTyped}
 use Rattle.revision_calculus.proofs.FunKinds.{rules_kept}
 use Rattle.merge_kernels.specs.Closing as closing
 use Rattle.merge_kernels.specs.Closing.{with_part, with_three, with_links, with_link, renamed, renamed_form, renamed_links}

@@ -3,10 +3,10 @@ use Rattle.std.proofs.Common.{◌≡◌, ◌∙◌, ap, sym, refl, ℕ, zero, su
 use Rattle.std.proofs.lemmas.List.{length-map}
 use Rattle.rev_syntax.specs.Trees.{Declaration, fun, merge, shared, proc}
 use Rattle.rev_syntax.specs.View.{declaration, program as whole}
-use Rattle.merge_decl.specs.FunRules.{merge_decls}
-use Rattle.merge_decl.specs.Value.{FunDef}
-use Rattle.merge_decl.specs.Definitions.{fun_def, merges_after, merges_in}
-use Rattle.merge_decl.specs.declared.expand.Expanded.{Expanded}
+use Rattle.typed_programs.specs.FunRules.{merge_decls}
+use Rattle.typed_programs.specs.Value.{FunDef}
+use Rattle.typed_programs.specs.Definitions.{fun_def, merges_after, merges_in}
+use Rattle.typed_programs.specs.declared.expanded.Expanded.{Expanded}
 use Rattle.merge_kernels.specs.Merges.{term_by, term_of}
 
 as_many : (fs : List FunDef) (es : List Declaration) (d : ℕ) → length (merges_after fs es) ≡ length (merge_decls d es)

@@ -2,7 +2,7 @@
 use Rattle.std.proofs.Common.{◌≡◌, sym, subst, ℕ, ◌+◌, ◌<◌, List, ◌++◌, length, replicate, drop, get_or, Option}
 use Rattle.std.proofs.lemmas.List.{get_or_default}
 use Rattle.rev_syntax.specs.Trees.{Expression, ProgramTree}
-use Rattle.rev_types.specs.declared.tables.SharedInfo.{SharedInfo}
+use Rattle.typed_programs.specs.declared.shared_info.SharedInfo.{SharedInfo}
 use Rattle.revision_state.specs.Tables.{merges_in}
 use Rattle.kernel_choices.specs.Choices.{IsChoice, AreChoices}
 use Rattle.kernel_choices.proofs.Rows.{goes_on}

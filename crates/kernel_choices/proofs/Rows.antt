@@ -1,7 +1,7 @@
 -- The merges of locations, row by row.
 use Rattle.std.proofs.Common.{◌≡◌, ◌∙◌, ap, sym, ℕ, ◌+◌, ◌<◌, ◌≤◌, List, ◌∷◌, ◌++◌, length, replicate, drop, get_or, Option, append_assoc}
 use Rattle.std.proofs.lemmas.List.{append-nil, drop_more, drop_all}
-use Rattle.rev_types.specs.declared.tables.SharedInfo.{SharedInfo}
+use Rattle.typed_programs.specs.declared.shared_info.SharedInfo.{SharedInfo}
 use Rattle.revision_state.specs.Tables.{merges_in}
 
 pub goes_on : (rows : List SharedInfo) (i : ℕ) (x : SharedInfo) → i < length rows → x ≡ get_or rows i x

@@ -6,11 +6,11 @@ use Rattle.rev_num.specs.declared.value.Value.TheVariants as v
 use Rattle.rev_num.specs.declared.value.ValueKind.TheVariants as k
 use Rattle.rev_num.specs.declared.outcome.Cause.TheVariants as cause
 use Rattle.rev_syntax.specs.Trees.{Expression, ProgramTree}
-use Rattle.merge_decl.specs.Definitions.{MergeDef, merges_in, merged, merge_value_of}
-use Rattle.merge_decl.specs.Evaluation.{merge_answer}
-use Rattle.merge_decl.specs.Value.{Answer}
-use Rattle.rev_types.specs.Layout.{variables}
-use Rattle.rev_types.specs.Scopes.{outside, within}
+use Rattle.typed_programs.specs.Definitions.{MergeDef, merges_in, merged, merge_value_of}
+use Rattle.typed_programs.specs.Evaluation.{merge_answer}
+use Rattle.typed_programs.specs.Value.{Answer}
+use Rattle.typed_programs.specs.Layout.{variables}
+use Rattle.typed_programs.specs.Scopes.{outside, within}
 use Rattle.revision_calculus.specs.Join.{merges_of}
 use Rattle.revision_calculus.specs.Kinded.{IsAccepted, IsNumberOrFault}
 use Rattle.revision_calculus.proofs.FunKinds.{rules_kept}
@@ -66,7 +66,7 @@ module _ (p : ProgramTree) (well : IsAccepted p) where
           let fine : IsNumberOrFault (merge_value_of p n (v.Int x) (v.Int y) (v.Int z)) =
           merge_law p well n (v.Int x) (v.Int y) (v.Int z) refl refl refl in
           let here : merge_value_of p n (v.Int x) (v.Int y) (v.Int z) ≡ merged d (v.Int x) (v.Int y) (v.Int z) =
-          ap (λ o. Rattle.merge_decl.specs.Definitions.merged_by o (v.Int x) (v.Int y) (v.Int z)) at in
+          ap (λ o. Rattle.typed_programs.specs.Definitions.merged_by o (v.Int x) (v.Int y) (v.Int z)) at in
           ap word_or_fault
           (values_same no_handle (code_of p) (merge_number n p.declarations) (int x ∷ int y ∷ int z ∷ []))
           ∙ ap (λ a. word_or_fault (renamed_answer no_handle a)) (program_merges p well n d at x y z)

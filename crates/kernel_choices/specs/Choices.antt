@@ -9,9 +9,9 @@
 --                   in a well-typed program a merge has no definition exactly where it applies a fun
 use Rattle.std.specs.Prelude.{◌≡◌, ◌≢◌, ◌<◌, ◌^◌, ℕ, List, [], ◌∷◌, length, Option, Some, None, slice_get}
 use Rattle.rev_syntax.specs.Trees.{Expression, ProgramTree}
-use Rattle.merge_decl.specs.Definitions.{MergeDef, merges_in}
-use Rattle.merge_decl.specs.FunRules.{expression_uses}
-use Rattle.rev_types.specs.Layout.{variables}
+use Rattle.typed_programs.specs.Definitions.{MergeDef, merges_in}
+use Rattle.typed_programs.specs.FunRules.{expression_uses}
+use Rattle.typed_programs.specs.Layout.{variables}
 use Rattle.revision_calculus.specs.Join.{merges_of}
 use Rattle.revision_calculus.specs.Kinded.{IsAccepted}
 use Rattle.code_generation.specs.Generated.{code_of}

@@ -2,7 +2,7 @@
 
 ghost use Rattle.std.specs.Prelude.{◌≡◌, ◌++◌, ◌<◌, IfOk, OnOk, Some, length, map, replicate};
 ghost use Rattle.rev_syntax.specs.View.{program as whole};
-ghost use Rattle.rev_types.specs.Layout.{variables};
+ghost use Rattle.typed_programs.specs.Layout.{variables};
 ghost use Rattle.revision_calculus.specs.Join.{merges_of};
 ghost use Rattle.code_generation.specs.Generated.{code_of};
 ghost use Rattle.merge_kernels.specs.Plans.{AreWithin};
@@ -12,8 +12,8 @@ ghost use Rattle.kernel_choices.specs.Choices.{AreChoices, IsChoice, IsPlaceOf};
 
 use crate::laws::choice_laws;
 use merge_kernels::{Kernel, MergeDef, closed, find};
-use rev_types::Typed;
 use std::alloc::{AllocError, Global};
+use typed_programs::Typed;
 
 /// The least place of a kernel with this definition, among the first 2^32.
 fn place_of(kernels: &[Kernel], def: &MergeDef) -> Option<u32>

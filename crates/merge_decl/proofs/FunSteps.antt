@@ -1,5 +1,5 @@
 -- The loops over the applications and the funs of a program, a turn each.
-use Rattle.std.proofs.Common.{◌≡◌, ◌∙◌, ℕ, ◌+◌, ◌<◌, List, ◌∷◌, Option, Some, length, get_or, map, if◌then◌else◌, Vec, Global, drop, drop-cons, add-one, suc, refl, sym, ap}
+use Rattle.std.proofs.Common.{◌≡◌, ◌∙◌, ℕ, ◌+◌, ◌<◌, List, ◌∷◌, Option, Some, length, get_or, map, if◌then◌else◌, Vec, Global, drop, refl, sym, ap}
 use Rattle.rev_num.specs.declared.value.ValueKind.{ValueKind}
 use Rattle.rev_syntax.specs.Trees.{Declaration}
 use Rattle.rev_syntax.specs.View.{declaration, parameter}
@@ -8,21 +8,17 @@ use Rattle.rev_syntax.specs.declared.tree.Param.{Param}
 use Rattle.rev_syntax.specs.declared.tree.Expr.{Expr}
 use Rattle.rev_syntax.specs.declared.tree.Decl.{Decl}
 use Rattle.rev_syntax.specs.declared.tree.Decl.TheVariants as decl
-use Rattle.merge_decl.specs.Names.{Name, same}
-use Rattle.merge_decl.specs.Table.{Table, find, added}
-use Rattle.merge_decl.proofs.Tables.{or_else, find-added, or_else-step}
-use Rattle.merge_decl.specs.FunRules as rule
-use Rattle.merge_decl.specs.Least.{first_of, least}
+use Rattle.name_tables.specs.Names.{Name, same}
+use Rattle.name_tables.specs.Table.{Table, find, added}
+use Rattle.name_tables.proofs.Tables.{or_else, find-added, or_else-step}
+use Rattle.typed_programs.specs.FunRules as rule
+use Rattle.typed_programs.specs.Least.{first_of, least}
 use Rattle.merge_decl.specs.Uses.{use_of, uses_of}
 use Rattle.merge_decl.specs.declared.uses.Use as held
-use Rattle.merge_decl.specs.declared.expand.FunHead.{FunHead}
-use Rattle.merge_decl.specs.declared.expand.MergeFault.{MergeFault}
-use Rattle.merge_decl.proofs.Leasts.{first_of-assoc, least-append}
-
--- a list from an index on begins with the element there
-pub drop_at : {A : Type 0} (xs : List A) (i : ℕ) (x : A) → i < length xs → x ≡ get_or xs i x
-    → drop i xs ≡ x ∷ drop (i + 1) xs
-drop_at xs i x h e = rw (add-one) (drop-cons xs i x h ∙ ap (λ y. y ∷ drop (suc i) xs) (sym e))
+use Rattle.typed_programs.specs.declared.expanded.FunHead.{FunHead}
+use Rattle.typed_programs.specs.declared.fun_fault.MergeFault.{MergeFault}
+use Rattle.typed_programs.proofs.Leasts.{first_of-assoc, least-append}
+use Rattle.typed_programs.proofs.Declared.{drop_at}
 
 pub broken_step : (named : Name → Option FunHead) (us : List held.Use) (i : ℕ) (u : held.Use)
     (best b b' all : Option MergeFault)

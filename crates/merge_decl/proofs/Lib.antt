@@ -1,10 +1,4 @@
--- Proofs of merge_decl: funs and merges, and what the value of an expression is.
-pub mod Appends
-pub mod Declared
+-- Proofs of merge_decl: the applications and the funs of a program, one after another.
 pub mod Few
-pub mod Firsts
 pub mod FunSteps
-pub mod Leasts
-mod Rows
-pub mod Shapes
-pub mod Tables
+pub mod UsesAdded

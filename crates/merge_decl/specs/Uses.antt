@@ -2,7 +2,7 @@
 use Rattle.std.specs.Prelude.{List, map}
 use Rattle.rev_syntax.specs.View.{placed_name}
 use Rattle.merge_decl.specs.declared.uses.Use as held
-use Rattle.merge_decl.specs.FunRules.{Use}
+use Rattle.typed_programs.specs.FunRules.{Use}
 
 abbrev pub use_of : held.Use → Use
 use_of u = record { name = placed_name u.name.now; args = u.args; within = u.within }

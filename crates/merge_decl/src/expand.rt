@@ -4,82 +4,19 @@ ghost use Rattle.std.specs.Prelude.{◌≡◌, ◌<◌, ◌^◌, [], IfErr, IfOk
 ghost use Rattle.std.specs.declared.alloc.AllocError.{AllocError};
 ghost use Rattle.rev_syntax.specs.Small.{IsSmall};
 ghost use Rattle.rev_syntax.specs.View.{declaration, program as whole};
-ghost use Rattle.merge_decl.specs.FunRules as rule;
-ghost use Rattle.merge_decl.specs.Least.{first_of, is_less, least};
-ghost use Rattle.merge_decl.specs.Names.{Name};
-ghost use Rattle.merge_decl.specs.Table.{find};
+ghost use Rattle.typed_programs.specs.FunRules as rule;
+ghost use Rattle.typed_programs.specs.Least.{first_of, is_less, least};
+ghost use Rattle.name_tables.specs.Names.{Name};
+ghost use Rattle.name_tables.specs.Table.{find};
 ghost use Rattle.merge_decl.specs.Uses.{use_of, uses_of};
-ghost use Rattle.merge_decl.specs.Expands.{IsFirstBroken, Refuses, decls_of_funs, decls_of_merges};
-ghost use Rattle.merge_decl.specs.declared.expand.MergeFault.TheVariants.{OutOfMemory};
+ghost use Rattle.typed_programs.specs.Expands.{IsFirstBroken, Refuses, decls_of_funs, decls_of_merges};
 
-use crate::table::NameTable;
 use crate::uses::{Use, uses_in};
+use name_tables::NameTable;
 use rev_num::Items;
 use rev_syntax::{Decl, Program};
 use std::alloc::{AllocError, Global};
-
-/// A rule on funs that a program breaks, with the place of the name of the application; or want of
-/// memory, which says nothing of the program.
-#[derive(Clone, Copy, Drop)]
-pub enum MergeFault {
-    /// No fun has this name.
-    UnknownFun { at: u32 },
-    /// The fun is not declared before the fun or the merge that applies it.
-    LaterFun { at: u32 },
-    /// The number of arguments is not that of the parameters.
-    Arity { at: u32 },
-    OutOfMemory,
-}
-
-impl From<AllocError> for MergeFault {
-    ghost from_gives = { λ _ e. e ≡ OutOfMemory };
-
-    fn from(_e: AllocError) -> MergeFault {
-        MergeFault::OutOfMemory
-    }
-}
-
-/// A fun, by the number of its declaration.
-#[derive(Clone, Copy, Drop)]
-pub struct FunDef {
-    pub decl: u32,
-}
-
-/// A merge, by the number of its declaration.
-#[derive(Clone, Copy, Drop)]
-pub struct MergeRef {
-    pub decl: u32,
-}
-
-/// A fun: the number of its declaration, its number among the funs, and how many parameters it has.
-#[derive(Clone, Copy, Drop)]
-pub struct FunHead {
-    pub decl: u32,
-    pub number: u32,
-    pub params: usize,
-}
-
-/// A small program that keeps the rules on funs: the declarations of its funs and of its merges in
-/// order, and for each application, from left to right, the number of its fun.
-#[derive(Drop)]
-pub struct Expanded {
-    pub program: Program,
-    pub funs: Items<FunDef>,
-    pub merges: Items<MergeRef>,
-    pub uses: Items<u32>,
-    /// The first fun of each name.
-    pub table: NameTable<FunHead>,
-    ghost small: { IsSmall (whole program) },
-    ghost few: { length program.decls.items < 2 ^ 32 },
-    ghost keeps_rules: { rule.fun_faults (whole program) ≡ [] },
-    ghost funs_listed: { decls_of_funs funs
-        ≡ rule.fun_decls 0 (map declaration program.decls.items) },
-    ghost merges_listed: { decls_of_merges merges
-        ≡ rule.merge_decls 0 (map declaration program.decls.items) },
-    ghost uses_numbered: { uses
-        ≡ rule.numbers_of (rule.fun_named (whole program)) (rule.uses_in (whole program)) },
-    ghost funs_found: { (name : Name) → find name table ≡ rule.fun_named (whole program) name },
-}
+use typed_programs::{Expanded, FunDef, FunHead, MergeFault, MergeRef};
 
 fn place(fault: MergeFault) -> u32
     ensures { result ≡ rule.place fault }
@@ -146,7 +83,7 @@ fn broken(u: &Use, head: Option<FunHead>) -> Option<MergeFault>
 }
 
 /// The first rule that the applications break.
-#[tactic(auto, using(crate::proofs::Leasts::leasts))]
+#[tactic(auto, using(typed_programs::proofs::Leasts::leasts))]
 fn first_broken(table: &NameTable<FunHead>, uses: &[Use]) -> Option<MergeFault>
     ensures { result
         ≡ least rule.place rule.rank

@@ -1,10 +1,7 @@
-//! Pure functions and merges: what the value of an expression is, and which fun each application
-//! means.
+//! Which fun each application of a program means, and the rules on funs.
 #![tactic(auto)]
 
 mod expand;
-mod table;
 mod uses;
 
-pub use expand::{Expanded, FunDef, FunHead, MergeFault, MergeRef, expand_funs, first, precedes};
-pub use table::NameTable;
+pub use expand::{expand_funs, first, precedes};

@@ -4,7 +4,7 @@ ghost use Rattle.std.specs.Prelude.{◌≡◌, ◌++◌, OnOk, IfOk, map};
 ghost use Rattle.rev_syntax.specs.View.{statement_form, arms, block, declaration, links};
 ghost use Rattle.rev_syntax.specs.View.{program as whole, right_side, expression_form, print_item};
 ghost use Rattle.rev_syntax.specs.View.{expression, expressions};
-ghost use Rattle.merge_decl.specs.FunRules as rule;
+ghost use Rattle.typed_programs.specs.FunRules as rule;
 ghost use Rattle.merge_decl.specs.Uses.{uses_of};
 
 use rev_syntax::{Arm, Block, Decl, Expr, Form, Item, Link, Name, Node, Program, Rhs};
@@ -145,7 +145,7 @@ fn add_items<'a>(
 
 /// Appends the applications of a statement.
 #[cycle(form)]
-#[tactic(auto, using(crate::proofs::Appends::appends))]
+#[tactic(auto, using(typed_programs::proofs::Appends::appends))]
 fn add_form<'a>(
     uses: &mut Vec<Use<'a>>,
     within: usize,
@@ -186,7 +186,7 @@ fn add_form<'a>(
 }
 
 #[cycle(form)]
-#[tactic(auto, using(crate::proofs::Appends::appends))]
+#[tactic(auto, using(typed_programs::proofs::Appends::appends))]
 fn add_arms<'a>(
     uses: &mut Vec<Use<'a>>,
     within: usize,
@@ -238,7 +238,7 @@ fn add_decl<'a>(
     }
 }
 
-#[tactic(auto, using(crate::proofs::Appends::appends))]
+#[tactic(auto, using(typed_programs::proofs::Appends::appends))]
 /// The applications of a program, from left to right.
 pub fn uses_in(alloc: Global, program: &Program) -> Result<Vec<Use<'_>>, AllocError>
     ensures { IfOk result (λ us. uses_of us.items ≡ rule.uses_in (whole program.now)) }

@@ -8,8 +8,8 @@ use Rattle.rev_syntax.specs.declared.tree.UnaryOp.{UnaryOp}
 use Rattle.rev_syntax.specs.declared.tree.UnaryOp.TheVariants as u
 use Rattle.rev_syntax.specs.declared.tree.BinaryOp.{BinaryOp}
 use Rattle.rev_syntax.specs.declared.tree.BinaryOp.TheVariants as b
-use Rattle.merge_decl.specs.Names.{same}
-use Rattle.merge_decl.proofs.Tables.{same_equal}
+use Rattle.name_tables.specs.Names.{same}
+use Rattle.name_tables.proofs.Tables.{same_equal}
 use Rattle.merge_kernels.specs.Equal.{op_number, same_unary, same_name, equal, equal_form, equal_all, equal_links}
 
 both_true : (p q : Bool) → p && q ≡ true → (p ≡ true) × (q ≡ true)

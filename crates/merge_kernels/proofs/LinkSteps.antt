@@ -5,7 +5,7 @@ use Rattle.rev_syntax.specs.Trees.{Expression, Links}
 use Rattle.rev_syntax.specs.View.{expression, links}
 use Rattle.rev_syntax.specs.declared.tree.BinaryOp.{BinaryOp}
 use Rattle.rev_syntax.specs.declared.tree.Link.{Link}
-use Rattle.merge_decl.proofs.Shapes.{links-first}
+use Rattle.typed_programs.proofs.Shapes.{links-first}
 use Rattle.rev_syntax.specs.View.{links_of}
 use Rattle.merge_kernels.specs.Closing.{Names, with_link, renamed, renamed_links}
 use Rattle.merge_kernels.proofs.Listed.{before_links, before_more, before_none, before_all}

@@ -3,13 +3,13 @@ use Rattle.std.proofs.Common.{◌≡◌, ◌∙◌, ap, sym, refl, subst, ℕ, z
 use Rattle.rev_num.specs.declared.value.Value.TheVariants as v
 use Rattle.rev_syntax.specs.Trees.{Expression, Declaration, fun, merge, shared, proc, ProgramTree}
 use Rattle.rev_syntax.specs.View.{declaration}
-use Rattle.merge_decl.specs.Names.{Name}
-use Rattle.merge_decl.specs.FunRules.{merge_decls}
-use Rattle.merge_decl.specs.Value.{FunDef, Funs, funs_of, inside, value_by}
-use Rattle.merge_decl.specs.Definitions.{MergeDef, fun_def, merges_after, merges_in, merged_by, merge_value_of}
-use Rattle.merge_decl.specs.Evaluation.{merge_answer}
-use Rattle.merge_decl.specs.declared.expand.Expanded.{Expanded}
-use Rattle.merge_decl.specs.declared.expand.MergeRef.{MergeRef}
+use Rattle.name_tables.specs.Names.{Name}
+use Rattle.typed_programs.specs.FunRules.{merge_decls}
+use Rattle.typed_programs.specs.Value.{FunDef, Funs, funs_of, inside, value_by}
+use Rattle.typed_programs.specs.Definitions.{MergeDef, fun_def, merges_after, merges_in, merged_by, merge_value_of}
+use Rattle.typed_programs.specs.Evaluation.{merge_answer}
+use Rattle.typed_programs.specs.declared.expanded.Expanded.{Expanded}
+use Rattle.typed_programs.specs.declared.expanded.MergeRef.{MergeRef}
 use Rattle.std.proofs.lemmas.Option.{slice_get-map, slice_get-get_or}
 use Rattle.merge_kernels.specs.Terms.{answer_of, value_of}
 use Rattle.merge_kernels.proofs.Renaming.{keeps_value}

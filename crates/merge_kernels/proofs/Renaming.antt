@@ -5,8 +5,8 @@ use Rattle.rev_num.specs.declared.value.Value.TheVariants as v
 use Rattle.rev_syntax.specs.Trees.{Expression, placed, ExpressionForm, Links, int, bool, no_rev, var, cell, apply, input, inputs, pick, unary, chain, no_links, link}
 use Rattle.rev_syntax.specs.declared.tree.UnaryOp.{UnaryOp}
 use Rattle.rev_syntax.specs.declared.tree.BinaryOp.{BinaryOp}
-use Rattle.merge_decl.specs.Names.{same}
-use Rattle.merge_decl.specs.Value.{Answer, Funs, Env, and_then, inside, funs_of, value_by, chained, linked, short, reversed, read, truth_of}
+use Rattle.name_tables.specs.Names.{same}
+use Rattle.typed_programs.specs.Value.{Answer, Funs, Env, and_then, inside, funs_of, value_by, chained, linked, short, reversed, read, truth_of}
 use Rattle.merge_kernels.specs.Terms.{bare, parameter, main_name, join_name, root_name, params, value_of}
 use Rattle.merge_kernels.specs.Closing.{Names, with_part, with_three, with_links, with_link, renamed, renamed_form, renamed_links}
 use Rattle.merge_kernels.specs.Values.{KeepsValue}

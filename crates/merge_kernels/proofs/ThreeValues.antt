@@ -4,8 +4,8 @@ use Rattle.rev_num.specs.declared.value.NumFault.{NumFault}
 use Rattle.rev_num.specs.declared.value.NumFault.TheVariants as fault
 use Rattle.rev_num.specs.declared.value.Value.TheVariants as v
 use Rattle.rev_num.specs.Arith.{sum_of, difference_of}
-use Rattle.merge_decl.specs.Value.{and_then, number, number_of}
-use Rattle.merge_decl.specs.Evaluation.{merge_answer}
+use Rattle.typed_programs.specs.Value.{and_then, number, number_of}
+use Rattle.typed_programs.specs.Evaluation.{merge_answer}
 use Rattle.merge_kernels.specs.Terms.{answer_of, value_of}
 use Rattle.merge_kernels.specs.Three.{sum_expression, greatest_expression, least_expression}
 

@@ -5,7 +5,7 @@ use Rattle.std.specs.Prelude.{Option, Some, None, if◌then◌else◌}
 use Rattle.rev_syntax.specs.Trees.{Expression, placed, ExpressionForm, Links, int, bool, no_rev, var, cell, apply, input, inputs, pick, unary, chain, no_links, link}
 use Rattle.rev_syntax.specs.declared.tree.UnaryOp.{UnaryOp}
 use Rattle.rev_syntax.specs.declared.tree.BinaryOp.{BinaryOp}
-use Rattle.merge_decl.specs.Names.{Name, same}
+use Rattle.name_tables.specs.Names.{Name, same}
 use Rattle.merge_kernels.specs.Terms.{bare, parameter, main_name, join_name, root_name}
 
 -- the names of a merge's parameters

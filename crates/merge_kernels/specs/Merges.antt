@@ -5,9 +5,9 @@
 use Rattle.std.specs.Prelude.{◌≡◌, ℕ, ℤ, List, [], ◌∷◌, Option, Some, None, slice_get, option_and_then}
 use Rattle.rev_num.specs.declared.value.Value.TheVariants as v
 use Rattle.rev_syntax.specs.Trees.{Expression, Declaration, fun, merge, shared, proc, ProgramTree}
-use Rattle.merge_decl.specs.Names.{Name}
-use Rattle.merge_decl.specs.Definitions.{MergeDef, merges_in, merge_value_of}
-use Rattle.merge_decl.specs.Evaluation.{merge_answer}
+use Rattle.name_tables.specs.Names.{Name}
+use Rattle.typed_programs.specs.Definitions.{MergeDef, merges_in, merge_value_of}
+use Rattle.typed_programs.specs.Evaluation.{merge_answer}
 use Rattle.merge_kernels.specs.Terms.{answer_of}
 use Rattle.merge_kernels.specs.Closing.{renamed}
 

@@ -11,9 +11,9 @@ use Rattle.rev_syntax.specs.Trees.{Expression}
 use Rattle.rev_syntax.specs.View.{links_of}
 use Rattle.rev_syntax.specs.declared.tree.BinaryOp.{BinaryOp}
 use Rattle.rev_syntax.specs.declared.tree.UnaryOp.TheVariants as u
-use Rattle.merge_decl.specs.Names.{Name}
-use Rattle.merge_decl.specs.Value.{Answer, funs_of, inside, value_by}
-use Rattle.merge_decl.specs.Evaluation.{merge_answer}
+use Rattle.name_tables.specs.Names.{Name}
+use Rattle.typed_programs.specs.Value.{Answer, funs_of, inside, value_by}
+use Rattle.typed_programs.specs.Evaluation.{merge_answer}
 use Rattle.merge_kernels.specs.declared.term.Term.{Term, fold-Term}
 use Rattle.merge_kernels.specs.declared.term.Term.TheOpen.{Term-F, TermLink-F}
 use Rattle.merge_kernels.specs.declared.term.TermLink.{TermLink, fold-TermLink}

@@ -4,7 +4,7 @@
 use Rattle.std.specs.Prelude.{◌≡◌, ℤ, [], ◌∷◌, Some}
 use Rattle.rev_num.specs.declared.value.Value.TheVariants as v
 use Rattle.rev_syntax.specs.Trees.{Expression}
-use Rattle.merge_decl.specs.Value.{Funs, inside, value_by}
+use Rattle.typed_programs.specs.Value.{Funs, inside, value_by}
 use Rattle.merge_kernels.specs.Terms.{value_of}
 use Rattle.merge_kernels.specs.Closing.{Names, renamed}
 

@@ -9,9 +9,9 @@ ghost use Rattle.merge_kernels.specs.Merges.{term_in, term_of};
 use crate::parameters::Parameters;
 use crate::term::MergeDef;
 use crate::terms::close;
-use merge_decl::Expanded;
 use rev_syntax::Decl;
 use std::alloc::{AllocError, Global};
+use typed_programs::Expanded;
 
 /// The definition of the merge that is declared here.
 fn definition_in(alloc: Global, decl: &Decl) -> Result<Option<MergeDef>, AllocError>
@@ -40,7 +40,7 @@ fn definition_in(alloc: Global, decl: &Decl) -> Result<Option<MergeDef>, AllocEr
 }
 
 /// The declaration of this number.
-#[tactic(auto, using(merge_decl::proofs::Declared::slice_get_mapped))]
+#[tactic(auto, using(typed_programs::proofs::Declared::slice_get_mapped))]
 fn declared(expanded: &Expanded, number: usize) -> Option<&Decl>
     ensures { option_map declaration (option_copied result)
         ≡ slice_get (map declaration expanded.now.program.decls.items) number }

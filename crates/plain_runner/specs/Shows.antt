@@ -1,7 +1,7 @@
 -- What a state of `main` shows.
 use Rattle.std.specs.Prelude.{Option}
 use Rattle.rev_num.specs.declared.outcome.Outcome.{Outcome}
-use Rattle.rev_types.specs.Layout.{variables}
+use Rattle.typed_programs.specs.Layout.{variables}
 use Rattle.revision_calculus.specs.Program.{Setting}
 use Rattle.revision_calculus.specs.State.{Local}
 use Rattle.revision_calculus.specs.Outcome.{show_all, end_as}

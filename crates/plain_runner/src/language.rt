@@ -5,11 +5,11 @@ ghost use Rattle.rev_syntax.specs.View.{program as whole};
 ghost use Rattle.plain_runner.specs.Views.{setting_of};
 
 use rev_num::Path;
-use rev_types::Typed;
 use revision_machine::{Language, Next};
 use revision_state::Setting;
 use revision_steps::Local;
 use std::alloc::{AllocError, Global};
+use typed_programs::Typed;
 
 /// A typed program with its inputs and the most fuel that a fork gives, as a language.
 #[derive(Drop)]

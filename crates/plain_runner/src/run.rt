@@ -14,11 +14,11 @@ ghost use Rattle.plain_runner.specs.Views.{StepAnswers, setting_of};
 
 use crate::language::PlainLanguage;
 use rev_num::{Outcome, Path};
-use rev_types::Typed;
 use revision_machine as machine;
 use revision_machine::{BothOrders, GlobalState, StepOutcome};
 use revision_steps::Local;
 use std::alloc::{AllocError, Global};
+use typed_programs::Typed;
 
 impl<'a> PlainLanguage<'a> {
     /// The state before the first step: `main` alone, with this fuel, at most 4,000,000,000 units.

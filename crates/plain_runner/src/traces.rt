@@ -10,12 +10,13 @@ ghost use Rattle.plain_runner.specs.Made.{parts_by};
 
 use crate::language::PlainLanguage;
 use rev_num::{Bytes, Items};
-use rev_types::Typed;
 use revision_machine::{GlobalState, RevisionRow};
+use revision_parts::part_of;
 use revision_steps::Local;
 use std::alloc::{AllocError, Global};
 use trace_diagram::{Part, Trace};
-use trace_parts::{part_of, places_of, put_in_order};
+use trace_parts::{places_of, put_in_order};
+use typed_programs::Typed;
 
 /// The part of a revision, which is let go.
 fn into_part<'a>(

@@ -12,19 +12,19 @@ use Rattle.rev_num.proofs.SameKinds.{same_kind_self}
 use Rattle.rev_syntax.specs.Trees.{PlacedName, Expression, Expressions, RightSide, plain, called, tried, statement, bind, assign, assign_cell}
 use Rattle.rev_syntax.specs.Trees as tree
 use Rattle.rev_syntax.specs.Small.{name_formed, expression_small, expressions_small, right_side_small}
-use Rattle.merge_decl.specs.Names.{Name, same}
-use Rattle.merge_decl.specs.Table.{find, added}
-use Rattle.merge_decl.specs.Value.{number_of}
-use Rattle.rev_kinds.specs.declared.names.Holder.{Holder}
-use Rattle.rev_kinds.specs.Kinds.{Callee, Locals}
-use Rattle.rev_kinds.specs.Typing.{ScalarHas, ArrayHas}
-use Rattle.rev_kinds.proofs.Lists.{and_parts}
-use Rattle.rev_types.specs.Layout.{SharedVariable, variables}
-use Rattle.rev_types.specs.Judgement.{CallTyped, RightSideHas, Returns}
-use Rattle.rev_types.proofs.Applying.{small_formed}
-use Rattle.rev_types.proofs.Scopes.{right_side_is}
+use Rattle.name_tables.specs.Names.{Name, same}
+use Rattle.name_tables.specs.Table.{find, added}
+use Rattle.typed_programs.specs.Value.{number_of}
+use Rattle.typed_programs.specs.declared.names.Holder.{Holder}
+use Rattle.typed_programs.specs.Kinds.{Callee, Locals}
+use Rattle.typed_programs.specs.Typing.{ScalarHas, ArrayHas}
+use Rattle.typed_programs.proofs.Lists.{and_parts}
+use Rattle.typed_programs.specs.Layout.{SharedVariable, variables}
+use Rattle.typed_programs.specs.Judgement.{CallTyped, RightSideHas, Returns}
+use Rattle.typed_programs.proofs.Applying.{small_formed}
+use Rattle.typed_programs.proofs.Scopes.{right_side_is}
 use Rattle.rev_syntax.proofs.Lists.{same-self}
-use Rattle.merge_decl.proofs.Tables.{or_else, find-added}
+use Rattle.name_tables.proofs.Tables.{or_else, find-added}
 use Rattle.revision_machine.specs.Machine.{Event, Moves}
 use Rattle.revision_calculus.specs.Program.{variable_named, Setting}
 use Rattle.revision_calculus.specs.State.{Frame, Local, write_at}

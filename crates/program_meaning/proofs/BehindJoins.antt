@@ -3,7 +3,7 @@ use Rattle.std.proofs.Common.{◌≡◌, ◌∙◌, suc, Bool, [], Option, Some,
 use Rattle.std.specs.Prelude.{is_some}
 use Rattle.rev_num.specs.Path.{Path}
 use Rattle.rev_num.specs.declared.value.Value.TheVariants as v
-use Rattle.merge_decl.specs.Names.{Name}
+use Rattle.name_tables.specs.Names.{Name}
 use Rattle.revision_calculus.specs.Program.{Setting}
 use Rattle.revision_calculus.specs.State.{Local}
 use Rattle.revision_calculus.specs.Evaluation.{give}

@@ -12,10 +12,10 @@ use Rattle.rev_num.specs.declared.outcome.Cause.{Cause}
 use Rattle.rev_num.specs.declared.outcome.Cause.TheVariants as cause
 use Rattle.rev_num.proofs.SameKinds.{same_kind_self}
 use Rattle.rev_syntax.specs.Trees.{Parameter}
-use Rattle.merge_decl.specs.Names.{Name}
-use Rattle.merge_decl.specs.Value.{Answer, and_then}
-use Rattle.rev_kinds.specs.Kinds.{Callee}
-use Rattle.rev_types.specs.Layout.{SharedVariable, variables, procedures}
+use Rattle.name_tables.specs.Names.{Name}
+use Rattle.typed_programs.specs.Value.{Answer, and_then}
+use Rattle.typed_programs.specs.Kinds.{Callee}
+use Rattle.typed_programs.specs.Layout.{SharedVariable, variables, procedures}
 use Rattle.revision_machine.specs.Machine.{Event, Moves, Forks, Joins, Ended}
 use Rattle.revision_calculus.specs.Program.{variable_named, procedure_named, Setting}
 use Rattle.revision_calculus.specs.State as source

@@ -9,11 +9,11 @@ use Rattle.rev_num.specs.Value.{kind_of}
 use Rattle.rev_num.specs.declared.outcome.Cause.{Cause}
 use Rattle.rev_syntax.specs.Trees.{Expression, Statement, statement, repeat, Statements, no_statements, statements, Arms, no_arms, arm}
 use Rattle.rev_syntax.specs.Small.{expression_small, statements_small}
-use Rattle.merge_decl.specs.Value.{truth_of}
-use Rattle.rev_kinds.specs.Kinds.{Locals}
-use Rattle.rev_kinds.proofs.Lists.{and_parts}
-use Rattle.rev_types.specs.Judgement.{Returns}
-use Rattle.rev_types.proofs.Applying.{small_formed}
+use Rattle.typed_programs.specs.Value.{truth_of}
+use Rattle.typed_programs.specs.Kinds.{Locals}
+use Rattle.typed_programs.proofs.Lists.{and_parts}
+use Rattle.typed_programs.specs.Judgement.{Returns}
+use Rattle.typed_programs.proofs.Applying.{small_formed}
 use Rattle.revision_machine.specs.Machine.{Event, Moves}
 use Rattle.revision_calculus.specs.Program.{Setting}
 use Rattle.revision_calculus.specs.State.{Frame, Local}
@@ -33,7 +33,7 @@ use Rattle.expression_meaning.specs.Places.{Tables, StatementStands, BlockStands
 use Rattle.program_meaning.proofs.Linked.{IsLinked}
 use Rattle.program_meaning.proofs.Reading.{Ready, evaluates}
 use Rattle.program_meaning.proofs.Resume.{one, stands}
-use Rattle.rev_types.specs.Statements.{statement_returns, statements_return, arms_return}
+use Rattle.typed_programs.specs.Statements.{statement_returns, statements_return, arms_return}
 use Rattle.revision_calculus.specs.Evaluation.{eval, on_top}
 use Rattle.revision_calculus.specs.Step.{with_answer, append, enter, select, does}
 use Rattle.revision_calculus.proofs.ScopeKinds.{returns_behind, returns_block, returns_before}

@@ -9,12 +9,12 @@ use Rattle.rev_num.specs.declared.value.NumFault.{NumFault}
 use Rattle.rev_num.specs.declared.value.NumFault.TheVariants as fault
 use Rattle.rev_num.specs.declared.outcome.Cause.{Cause}
 use Rattle.rev_syntax.specs.Trees.{ProgramTree}
-use Rattle.merge_decl.specs.Definitions.{MergeDef, merges_in, merged, merge_value_of}
-use Rattle.merge_decl.specs.Definitions as definition
-use Rattle.merge_decl.specs.Evaluation.{merge_answer}
-use Rattle.rev_types.specs.Layout.{variables}
-use Rattle.rev_types.specs.Scopes.{outside, within}
-use Rattle.rev_types.proofs.DeclsSound.{program_typed}
+use Rattle.typed_programs.specs.Definitions.{MergeDef, merges_in, merged, merge_value_of}
+use Rattle.typed_programs.specs.Definitions as definition
+use Rattle.typed_programs.specs.Evaluation.{merge_answer}
+use Rattle.typed_programs.specs.Layout.{variables}
+use Rattle.typed_programs.specs.Scopes.{outside, within}
+use Rattle.typed_programs.proofs.DeclsSound.{program_typed}
 use Rattle.revision_calculus.specs.Join.{merges_of, number_value}
 use Rattle.revision_calculus.specs.Kinded.{IsAccepted, IsNumberOrFault}
 use Rattle.revision_calculus.proofs.MergeCauses.{merge_law}

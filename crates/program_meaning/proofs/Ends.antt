@@ -6,9 +6,9 @@ use Rattle.rev_num.specs.declared.value.Value.{Value}
 use Rattle.rev_num.specs.declared.value.Value.TheVariants as v
 use Rattle.rev_num.specs.declared.outcome.Outcome.TheVariants as o
 use Rattle.rev_syntax.specs.Trees.{Declaration, fun, merge, shared, proc}
-use Rattle.merge_decl.specs.Names.{Name}
-use Rattle.rev_types.specs.Limits.{cells}
-use Rattle.rev_types.specs.Layout.{SharedVariable, variable_behind, variables_behind, variables}
+use Rattle.name_tables.specs.Names.{Name}
+use Rattle.typed_programs.specs.Limits.{cells}
+use Rattle.typed_programs.specs.Layout.{SharedVariable, variable_behind, variables_behind, variables}
 use Rattle.revision_machine.specs.Machine.{Entry, Plain, Joined, Global, Twice, Live}
 use Rattle.revision_machine.specs.Simulation.{EntryAgrees, Agrees}
 use Rattle.revision_calculus.specs.Program.{Setting}

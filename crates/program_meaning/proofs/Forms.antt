@@ -8,12 +8,12 @@ use Rattle.rev_num.specs.declared.outcome.Cause.TheVariants as cause
 use Rattle.rev_syntax.specs.Trees.{PlacedName, Expression, Expressions, statement, StatementForm, bind, assign, assign_cell, choose, choose_or, repeat, call, return, fork, join, print, assert, Statements, no_statements, statements}
 use Rattle.rev_syntax.specs.Trees as tree
 use Rattle.rev_syntax.specs.Small.{name_formed, expressions_small, statements_small, arms_small}
-use Rattle.merge_decl.specs.Value.{truth_of}
-use Rattle.rev_kinds.specs.Kinds.{Locals}
-use Rattle.rev_kinds.specs.Typing.{HasKind}
-use Rattle.rev_kinds.proofs.Lists.{and_parts}
-use Rattle.rev_types.specs.Judgement.{Returns, ReturnTyped}
-use Rattle.rev_types.proofs.Applying.{small_formed}
+use Rattle.typed_programs.specs.Value.{truth_of}
+use Rattle.typed_programs.specs.Kinds.{Locals}
+use Rattle.typed_programs.specs.Typing.{HasKind}
+use Rattle.typed_programs.proofs.Lists.{and_parts}
+use Rattle.typed_programs.specs.Judgement.{Returns, ReturnTyped}
+use Rattle.typed_programs.proofs.Applying.{small_formed}
 use Rattle.revision_machine.specs.Machine.{Moves}
 use Rattle.revision_calculus.specs.Program.{Setting}
 use Rattle.revision_calculus.specs.State.{Frame, running, Local}
@@ -36,9 +36,9 @@ use Rattle.expression_meaning.specs.States.{IsShared, DropAt, Behind, Stands}
 use Rattle.program_meaning.proofs.Linked.{IsLinked}
 use Rattle.program_meaning.proofs.Reading.{Ready, evaluates}
 use Rattle.program_meaning.proofs.Resume.{one, leads, stands}
-use Rattle.rev_types.specs.Statements.{statements_return, arms_return}
-use Rattle.rev_types.proofs.Returning.{none_end}
-use Rattle.rev_types.specs.Limits.{arms_lets}
+use Rattle.typed_programs.specs.Statements.{statements_return, arms_return}
+use Rattle.typed_programs.proofs.Returning.{none_end}
+use Rattle.typed_programs.specs.Limits.{arms_lets}
 use Rattle.revision_calculus.specs.Evaluation.{eval, evals}
 use Rattle.revision_calculus.specs.Step.{traps, with_answer, end_frame, calls, forks, joins, item_texts, line_of, does, begins, by_rest, by_frames, by_phase, next}
 use Rattle.revision_calculus.proofs.ScopeKinds.{returns_behind}

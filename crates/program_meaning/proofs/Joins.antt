@@ -7,9 +7,9 @@ use Rattle.rev_num.specs.declared.value.Value.{Value}
 use Rattle.rev_num.specs.declared.value.Value.TheVariants as v
 use Rattle.rev_num.specs.declared.outcome.Cause.TheVariants as cause
 use Rattle.rev_num.specs.declared.outcome.Trap.{Trap}
-use Rattle.merge_decl.specs.Names.{Name}
-use Rattle.rev_types.specs.Scopes.{within}
-use Rattle.rev_types.specs.Layout.{variables}
+use Rattle.name_tables.specs.Names.{Name}
+use Rattle.typed_programs.specs.Scopes.{within}
+use Rattle.typed_programs.specs.Layout.{variables}
 use Rattle.revision_calculus.specs.Program.{Setting}
 use Rattle.revision_calculus.specs.State as source
 use Rattle.revision_calculus.specs.State.{Location, Noted, joining, Local}

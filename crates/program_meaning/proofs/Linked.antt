@@ -1,11 +1,11 @@
 -- What the simulation of statements needs of a program and its code.
 use Rattle.std.specs.Prelude.{◌≡◌, is_some, Option, Some, List, map, slice_get}
 use Rattle.rev_num.specs.declared.value.Value.{Value}
-use Rattle.merge_decl.specs.Names.{Name}
-use Rattle.merge_decl.specs.Value.{funs_of}
-use Rattle.merge_decl.specs.Definitions.{funs_in}
-use Rattle.rev_kinds.specs.Kinds.{Callee}
-use Rattle.rev_types.specs.Layout.{SharedVariable, variables, procedures}
+use Rattle.name_tables.specs.Names.{Name}
+use Rattle.typed_programs.specs.Value.{funs_of}
+use Rattle.typed_programs.specs.Definitions.{funs_in}
+use Rattle.typed_programs.specs.Kinds.{Callee}
+use Rattle.typed_programs.specs.Layout.{SharedVariable, variables, procedures}
 use Rattle.revision_calculus.specs.Program.{variable_named, procedure_named, Setting}
 use Rattle.revision_calculus.specs.Step.{frame_of}
 use Rattle.revision_calculus.specs.Kinded.{names}

@@ -14,16 +14,16 @@ use Rattle.rev_num.specs.declared.value.ValueKind.TheVariants as k
 use Rattle.rev_num.specs.declared.value.NumFault.{NumFault}
 use Rattle.rev_num.specs.declared.outcome.Cause.TheVariants as cause
 use Rattle.rev_syntax.specs.Trees.{PlacedName, Declaration, fun, merge, shared, proc, ProgramTree}
-use Rattle.merge_decl.specs.Least.{Among}
-use Rattle.merge_decl.specs.Names.{Name, same}
-use Rattle.merge_decl.specs.Value.{Answer, FunDef}
-use Rattle.merge_decl.specs.Definitions.{fun_def, MergeDef, merge_def, merges_after, merges_in, merged, merge_value_of}
-use Rattle.merge_decl.specs.Evaluation.{merge_answer}
-use Rattle.merge_decl.proofs.Firsts.{more_among}
-use Rattle.rev_kinds.specs.Kinds.{Names}
-use Rattle.rev_types.specs.Judgement.{ByTyped, DeclarationsTyped}
-use Rattle.rev_types.specs.Layout.{merge_at, merge_of, variable_behind, variables_behind}
-use Rattle.rev_types.specs.Scopes.{cells_of}
+use Rattle.typed_programs.specs.Least.{Among}
+use Rattle.name_tables.specs.Names.{Name, same}
+use Rattle.typed_programs.specs.Value.{Answer, FunDef}
+use Rattle.typed_programs.specs.Definitions.{fun_def, MergeDef, merge_def, merges_after, merges_in, merged, merge_value_of}
+use Rattle.typed_programs.specs.Evaluation.{merge_answer}
+use Rattle.typed_programs.proofs.Firsts.{more_among}
+use Rattle.typed_programs.specs.Kinds.{Names}
+use Rattle.typed_programs.specs.Judgement.{ByTyped, DeclarationsTyped}
+use Rattle.typed_programs.specs.Layout.{merge_at, merge_of, variable_behind, variables_behind}
+use Rattle.typed_programs.specs.Scopes.{cells_of}
 use Rattle.revision_calculus.specs.State.{Location, view}
 use Rattle.revision_calculus.specs.Join.{merges_of, number_value}
 use Rattle.revision_calculus.specs.Kinded.{IsAccepted, IsOf, IsNumberOrFault, declared_kinds, MergesLocation, MergesLocations}
@@ -74,7 +74,7 @@ module _ (p : ProgramTree) (well : IsAccepted p) where
   value_is : (n : ℕ) (d : MergeDef) → slice_get (merges_in p) n ≡ Some d → (x y z : Value)
       → merge_value_of p n x y z ≡ merged d x y z
   unfolding merge_value_of
-  value_is n d is x y z = ap (λ o. Rattle.merge_decl.specs.Definitions.merged_by o x y z) is
+  value_is n d is x y z = ap (λ o. Rattle.typed_programs.specs.Definitions.merged_by o x y z) is
 
   ints_alike : (n : ℕ) → IsDeclared p (Some n) → (x y z : Value) → IsOf k.Int x → IsOf k.Int y → IsOf k.Int z
       → IsNumberOrFault (merge_value_of p n x y z)

@@ -12,12 +12,12 @@ use Rattle.rev_num.specs.declared.outcome.Cause.{Cause}
 use Rattle.rev_syntax.specs.Trees.{Parameter, PrintItem, text, shown}
 use Rattle.rev_syntax.specs.Small.{item_small}
 use Rattle.rev_report.specs.Outcome.{value_text}
-use Rattle.merge_decl.specs.Value.{Answer, and_then}
-use Rattle.rev_kinds.specs.Kinds.{Locals, kind_in}
-use Rattle.rev_kinds.proofs.Lists.{and_parts}
-use Rattle.rev_kinds.proofs.Typings.{complete}
-use Rattle.rev_types.specs.Judgement.{ItemsTyped}
-use Rattle.rev_types.proofs.Applying.{small_formed}
+use Rattle.typed_programs.specs.Value.{Answer, and_then}
+use Rattle.typed_programs.specs.Kinds.{Locals, kind_in}
+use Rattle.typed_programs.proofs.Lists.{and_parts}
+use Rattle.typed_programs.proofs.Typings.{complete}
+use Rattle.typed_programs.specs.Judgement.{ItemsTyped}
+use Rattle.typed_programs.proofs.Applying.{small_formed}
 use Rattle.revision_machine.specs.Machine.{Moves}
 use Rattle.revision_calculus.specs.Program.{Setting}
 use Rattle.revision_calculus.specs.State.{Frame, Local}

@@ -7,15 +7,15 @@ use Rattle.rev_num.specs.declared.value.ValueKind.{ValueKind}
 use Rattle.rev_num.specs.declared.value.ValueKind.TheVariants as k
 use Rattle.rev_syntax.specs.Trees.{Parameter, Statements, no_statements, statements, Declaration, fun, merge, shared, proc}
 use Rattle.rev_syntax.specs.Small.{statements_small}
-use Rattle.merge_decl.specs.Names.{Name, same}
-use Rattle.merge_decl.specs.Table.{find, added}
-use Rattle.merge_decl.specs.Definitions.{names_of}
-use Rattle.merge_decl.proofs.Tables.{or_else, or_else-none, or_else-step, find-added}
-use Rattle.rev_kinds.specs.Kinds.{Callee, Names, Locals}
-use Rattle.rev_types.specs.Judgement.{ParamsNew, StatementsTyped, Returns}
-use Rattle.rev_types.specs.Scopes as scopes
-use Rattle.rev_types.specs.Scopes.{proc_named}
-use Rattle.rev_types.specs.Layout.{procedures_from}
+use Rattle.name_tables.specs.Names.{Name, same}
+use Rattle.name_tables.specs.Table.{find, added}
+use Rattle.typed_programs.specs.Definitions.{names_of}
+use Rattle.name_tables.proofs.Tables.{or_else, or_else-none, or_else-step, find-added}
+use Rattle.typed_programs.specs.Kinds.{Callee, Names, Locals}
+use Rattle.typed_programs.specs.Judgement.{ParamsNew, StatementsTyped, Returns}
+use Rattle.typed_programs.specs.Scopes as scopes
+use Rattle.typed_programs.specs.Scopes.{proc_named}
+use Rattle.typed_programs.specs.Layout.{procedures_from}
 use Rattle.revision_calculus.specs.Program.{procedure_named, Setting}
 use Rattle.revision_calculus.specs.Step.{append, locals_of}
 use Rattle.revision_calculus.specs.Kinded.{names}

@@ -7,17 +7,17 @@ use Rattle.rev_num.specs.declared.value.ValueKind.{ValueKind}
 use Rattle.rev_num.specs.Value.{kind_of}
 use Rattle.rev_syntax.specs.Trees.{Expression, Expressions, Declaration, fun, merge, shared, proc}
 use Rattle.rev_syntax.specs.Small.{expression_formed, expressions_formed}
-use Rattle.merge_decl.specs.Names.{Name, same}
-use Rattle.merge_decl.specs.Table.{find}
-use Rattle.merge_decl.specs.FunRules.{count}
-use Rattle.merge_decl.specs.Value as value
-use Rattle.merge_decl.specs.Value.{funs_of}
-use Rattle.merge_decl.specs.Definitions.{funs_in}
-use Rattle.rev_kinds.specs.declared.names.Holder.{Holder}
-use Rattle.rev_kinds.specs.Kinds.{Callee, Locals}
-use Rattle.rev_kinds.specs.Typing.{HasKind, ArgsHave}
-use Rattle.rev_types.specs.Scopes.{shared_named, holder}
-use Rattle.rev_types.specs.Layout.{SharedVariable, variable_behind, variables_behind, variables}
+use Rattle.name_tables.specs.Names.{Name, same}
+use Rattle.name_tables.specs.Table.{find}
+use Rattle.typed_programs.specs.FunRules.{count}
+use Rattle.typed_programs.specs.Value as value
+use Rattle.typed_programs.specs.Value.{funs_of}
+use Rattle.typed_programs.specs.Definitions.{funs_in}
+use Rattle.typed_programs.specs.declared.names.Holder.{Holder}
+use Rattle.typed_programs.specs.Kinds.{Callee, Locals}
+use Rattle.typed_programs.specs.Typing.{HasKind, ArgsHave}
+use Rattle.typed_programs.specs.Scopes.{shared_named, holder}
+use Rattle.typed_programs.specs.Layout.{SharedVariable, variable_behind, variables_behind, variables}
 use Rattle.revision_calculus.specs.Program.{variable_named, Setting}
 use Rattle.revision_calculus.specs.State.{view_at, Frame, running, Local}
 use Rattle.revision_calculus.specs.Evaluation.{top_locals, read_shared, env, eval, evals}

@@ -6,9 +6,9 @@ use Rattle.rev_num.specs.declared.value.Value.{Value}
 use Rattle.rev_num.specs.declared.value.ValueKind.{ValueKind}
 use Rattle.rev_num.specs.Value.{kind_of, same_kind}
 use Rattle.rev_num.proofs.SameKinds.{same_kind_self}
-use Rattle.merge_decl.specs.Names.{Name}
-use Rattle.merge_decl.specs.Table.{find}
-use Rattle.rev_types.specs.Judgement.{Returns}
+use Rattle.name_tables.specs.Names.{Name}
+use Rattle.name_tables.specs.Table.{find}
+use Rattle.typed_programs.specs.Judgement.{Returns}
 use Rattle.revision_calculus.specs.Program.{Setting}
 use Rattle.revision_calculus.specs.State.{Frame, Local, write_at}
 use Rattle.revision_calculus.specs.Evaluation.{on_top, set_local, set_named, set, give}

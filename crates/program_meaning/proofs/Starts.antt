@@ -13,14 +13,14 @@ use Rattle.rev_num.specs.Value.{kind_of}
 use Rattle.rev_num.specs.Words.{word_of, int_of}
 use Rattle.rev_syntax.specs.Trees.{Constant, Declaration, fun, merge, shared, proc}
 use Rattle.rev_syntax.specs.Small.{name_formed, by_formed, size_formed, first_formed, value_formed, declaration_small}
-use Rattle.merge_decl.specs.Names.{Name}
-use Rattle.rev_kinds.specs.Kinds.{Callee, Names}
-use Rattle.rev_kinds.proofs.Lists.{and_parts}
-use Rattle.rev_types.specs.Judgement.{FirstTyped, DeclarationsTyped}
-use Rattle.rev_types.specs.Scopes as scopes
-use Rattle.rev_types.specs.Scopes.{within}
-use Rattle.rev_types.specs.Limits.{funs}
-use Rattle.rev_types.specs.Layout.{variable_behind, variables_behind, Procedure, procedures}
+use Rattle.name_tables.specs.Names.{Name}
+use Rattle.typed_programs.specs.Kinds.{Callee, Names}
+use Rattle.typed_programs.proofs.Lists.{and_parts}
+use Rattle.typed_programs.specs.Judgement.{FirstTyped, DeclarationsTyped}
+use Rattle.typed_programs.specs.Scopes as scopes
+use Rattle.typed_programs.specs.Scopes.{within}
+use Rattle.typed_programs.specs.Limits.{funs}
+use Rattle.typed_programs.specs.Layout.{variable_behind, variables_behind, Procedure, procedures}
 use Rattle.revision_calculus.specs.Program.{zero_value, constant_value, first_value, procedure_named, Setting}
 use Rattle.revision_calculus.specs.State.{fresh}
 use Rattle.revision_calculus.specs.Step.{locals_of}

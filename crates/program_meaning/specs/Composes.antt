@@ -10,7 +10,7 @@ use Rattle.std.specs.Prelude.{◌≡◌, ℕ, suc, Bool, true, List, [], ◌∷�
 use Rattle.rev_num.specs.declared.value.Value.{Value}
 use Rattle.rev_num.specs.declared.value.NumFault.{NumFault}
 use Rattle.rev_syntax.specs.Trees.{ProgramTree}
-use Rattle.merge_decl.specs.Value.{number_of}
+use Rattle.typed_programs.specs.Value.{number_of}
 use Rattle.version_map.specs.Composing.{Entry, Merges, Composition, composed}
 use Rattle.revision_calculus.specs.State.{Location, view, with_write}
 use Rattle.revision_calculus.specs.Join.{merge_of_numbers, number_value, merged, faults, compose}

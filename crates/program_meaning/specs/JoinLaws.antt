@@ -1,7 +1,7 @@
 -- A joiner agrees with its code behind a join.
 use Rattle.std.specs.Prelude.{◌≡◌, ◌≢◌, is_some, Option}
 use Rattle.rev_num.specs.Path.{Path}
-use Rattle.merge_decl.specs.Names.{Name}
+use Rattle.name_tables.specs.Names.{Name}
 use Rattle.revision_calculus.specs.Program.{Setting}
 use Rattle.revision_calculus.specs.State.{joining, Local}
 use Rattle.revision_calculus.specs.Join.{join}

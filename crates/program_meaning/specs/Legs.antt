@@ -7,7 +7,7 @@ use Rattle.std.specs.Prelude.{◌≡◌, ℕ, Bool, is_some, Option, Some, None,
 use Rattle.rev_num.specs.Path.{Path, child}
 use Rattle.rev_num.specs.declared.outcome.Cause.{Cause}
 use Rattle.rev_num.specs.declared.outcome.Trap.{Trap}
-use Rattle.merge_decl.specs.Names.{Name}
+use Rattle.name_tables.specs.Names.{Name}
 use Rattle.revision_machine.specs.Machine.{Forks}
 use Rattle.revision_machine.specs.Simulation.{Quiet}
 use Rattle.revision_calculus.specs.Program.{Setting}

@@ -7,9 +7,9 @@ use Rattle.std.specs.Prelude.{◌≡◌, ℕ, ℤ, Some, Result, Ok, Err, slice_
 use Rattle.rev_num.specs.declared.value.Value.TheVariants as v
 use Rattle.rev_num.specs.declared.value.NumFault.{NumFault}
 use Rattle.rev_syntax.specs.Trees.{ProgramTree}
-use Rattle.merge_decl.specs.Definitions.{MergeDef, merges_in, merged}
-use Rattle.merge_decl.specs.Evaluation.{merge_answer}
-use Rattle.rev_types.specs.Layout.{variables}
+use Rattle.typed_programs.specs.Definitions.{MergeDef, merges_in, merged}
+use Rattle.typed_programs.specs.Evaluation.{merge_answer}
+use Rattle.typed_programs.specs.Layout.{variables}
 use Rattle.revision_calculus.specs.Join.{merges_of}
 use Rattle.revision_calculus.specs.Kinded.{IsAccepted}
 use Rattle.rev_code.specs.Words.{Word, int}

@@ -10,8 +10,8 @@ use Rattle.rev_num.specs.Path.{Path}
 use Rattle.rev_num.specs.declared.value.Value.{Value}
 use Rattle.rev_num.specs.declared.value.Value.TheVariants as v
 use Rattle.rev_num.specs.declared.value.ValueKind.{ValueKind}
-use Rattle.merge_decl.specs.Names.{Name}
-use Rattle.rev_kinds.specs.Kinds.{Locals}
+use Rattle.name_tables.specs.Names.{Name}
+use Rattle.typed_programs.specs.Kinds.{Locals}
 use Rattle.revision_calculus.specs.Program.{Setting}
 use Rattle.revision_calculus.specs.State.{Frame, running, Local}
 use Rattle.revision_calculus.specs.Evaluation.{env, give}

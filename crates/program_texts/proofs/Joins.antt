@@ -7,10 +7,10 @@ use Rattle.rev_num.specs.declared.value.Value.TheVariants as v
 use Rattle.rev_num.specs.declared.value.NumFault.{NumFault}
 use Rattle.rev_num.specs.declared.outcome.Cause.TheVariants as cause
 use Rattle.rev_syntax.specs.Trees.{ProgramTree}
-use Rattle.merge_decl.specs.Names.{Name}
-use Rattle.merge_decl.specs.Value.{Answer, number_of}
-use Rattle.merge_decl.specs.Evaluation.{merge_answer}
-use Rattle.rev_types.specs.Layout.{variables}
+use Rattle.name_tables.specs.Names.{Name}
+use Rattle.typed_programs.specs.Value.{Answer, number_of}
+use Rattle.typed_programs.specs.Evaluation.{merge_answer}
+use Rattle.typed_programs.specs.Layout.{variables}
 use Rattle.revision_calculus.specs.Program.{Setting}
 use Rattle.revision_calculus.specs.State.{Location, view, joined, Phase, running, joining, done, trapped, Local}
 use Rattle.revision_calculus.specs.Join.{merges_of, merge_of_numbers, number_value, new_value, overwrite, join_location, Composition, merged, faults, and_later, compose, absorb, inherit, join_in, left_side, note, join}

@@ -5,7 +5,7 @@ use Rattle.rev_syntax.proofs.Reading.{leads-within}
 use Rattle.rev_parse.specs.Verdicts.{IsProgram}
 use Rattle.rev_parse.proofs.OfAnswer.{whole_program}
 use Rattle.rev_parse.proofs.SmallPrograms.{program_small}
-use Rattle.rev_types.proofs.Accepting.{well_typed}
+use Rattle.typed_programs.proofs.Accepting.{well_typed}
 use Rattle.static_rules.proofs.FunFaults.{funs_kept}
 use Rattle.rev_words.specs.Load as load
 use Rattle.rev_words.proofs.Loads.{load_text-short}

@@ -6,12 +6,12 @@ use Rattle.rev_syntax.specs.Trees as t
 use Rattle.rev_syntax.specs.Trees.{PlacedName, Parameter, Declaration, ProgramTree, Statements}
 use Rattle.rev_syntax.specs.Tokens.{array_size}
 use Rattle.rev_syntax.specs.View.{statements_of}
-use Rattle.merge_decl.specs.FunRules.{statements_uses, statement_uses, broken_in, fun_named, fun_faults}
-use Rattle.rev_kinds.specs.declared.fault.TypeFault.{TypeFault}
-use Rattle.rev_kinds.specs.Kinds.{Names, Locals}
-use Rattle.rev_types.specs.Scopes.{outside, locals_after}
-use Rattle.rev_types.specs.Statements.{broken_in_statement, broken_in_statements, left_after}
-use Rattle.rev_types.specs.Program.{faults}
+use Rattle.typed_programs.specs.FunRules.{statements_uses, statement_uses, broken_in, fun_named, fun_faults}
+use Rattle.typed_programs.specs.declared.fault.TypeFault.{TypeFault}
+use Rattle.typed_programs.specs.Kinds.{Names, Locals}
+use Rattle.typed_programs.specs.Scopes.{outside, locals_after}
+use Rattle.typed_programs.specs.Statements.{broken_in_statement, broken_in_statements, left_after}
+use Rattle.typed_programs.specs.Program.{faults}
 use Rattle.program_texts.proofs.Chunks.{Chunk, place, named}
 use Rattle.program_texts.proofs.LoadChunks.{Line, add_remainder, add_constant, set_product, statement_chunk, sum_line, most_line, a_line, b_line, v_line, work_line, let_line, while_line, step_line, go_lines, main_line, start_line, a_low, a_high, b_low, b_high, v_low, v_high}
 use Rattle.program_texts.proofs.LoadTrees.{sum_tree, most_tree, array_tree, let_tree, while_test, step_tree, go_tree, start_tree, print_tree, lines_at, chunk_statement, statement_trees}

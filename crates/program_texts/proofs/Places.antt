@@ -16,10 +16,10 @@ use Rattle.rev_syntax.specs.Words.{is_name}
 use Rattle.rev_syntax.specs.Small.{IsSmall, by_formed, declaration_small, first_formed, greatest, name_formed, size_formed}
 use Rattle.rev_syntax.specs.Trees.{ArraySize, SharedDeclaration, Declaration, fun, merge, shared, proc}
 use Rattle.rev_report.specs.Outcome.{place_of}
-use Rattle.merge_decl.specs.Names.{Name}
-use Rattle.rev_types.specs.Layout.{variable_behind, variables_behind, variables}
-use Rattle.rev_types.specs.Limits.{cells}
-use Rattle.rev_types.specs.Scopes.{cells_of}
+use Rattle.name_tables.specs.Names.{Name}
+use Rattle.typed_programs.specs.Layout.{variable_behind, variables_behind, variables}
+use Rattle.typed_programs.specs.Limits.{cells}
+use Rattle.typed_programs.specs.Scopes.{cells_of}
 use Rattle.revision_calculus.specs.Program.{Setting}
 use Rattle.revision_calculus.specs.State.{Location}
 use Rattle.revision_calculus.specs.Outcome.{show_cells, show_variable, show_all}

@@ -10,8 +10,8 @@ use Rattle.rev_num.specs.declared.value.ValueKind.{ValueKind}
 use Rattle.rev_num.specs.declared.value.ValueKind.TheVariants as kind
 use Rattle.rev_syntax.specs.Small.{IsSmall, by_formed, declaration_small, first_formed, name_formed, size_formed, value_formed}
 use Rattle.rev_syntax.specs.Trees.{Constant, Declaration, fun, merge, shared, proc}
-use Rattle.rev_types.specs.Scopes.{cells_of}
-use Rattle.rev_types.specs.Layout.{variables_behind, variables}
+use Rattle.typed_programs.specs.Scopes.{cells_of}
+use Rattle.typed_programs.specs.Layout.{variables_behind, variables}
 use Rattle.revision_calculus.specs.Program.{zero_value, constant_value, first_value, Setting}
 use Rattle.revision_calculus.specs.Calculus.{start_values, main}
 use Rattle.trace_diagram.specs.Lines.{FitsValue}

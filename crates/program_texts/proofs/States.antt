@@ -4,11 +4,11 @@ use Rattle.std.specs.List.{AllByRecursion}
 use Rattle.rev_num.specs.Path.{Path}
 use Rattle.rev_num.specs.declared.value.Value.{Value}
 use Rattle.rev_syntax.specs.Trees.{Statements, no_statements, statements, Expression, Expressions}
-use Rattle.merge_decl.specs.Names.{Name, same}
-use Rattle.merge_decl.specs.Table.{Table, find}
-use Rattle.merge_decl.specs.Definitions.{funs_in}
-use Rattle.merge_decl.specs.Value.{array, scalar, funs_of}
-use Rattle.rev_types.specs.Layout.{SharedVariable, variables, Procedure}
+use Rattle.name_tables.specs.Names.{Name, same}
+use Rattle.name_tables.specs.Table.{Table, find}
+use Rattle.typed_programs.specs.Definitions.{funs_in}
+use Rattle.typed_programs.specs.Value.{array, scalar, funs_of}
+use Rattle.typed_programs.specs.Layout.{SharedVariable, variables, Procedure}
 use Rattle.block_run.specs.Agreement.{AreInputs}
 use Rattle.revision_calculus.specs.Program.{variable_named, Setting}
 use Rattle.revision_calculus.specs.State.{Location, view, view_at, write_at, fresh, Frame, Noted, forked, joined, Phase, running, joining, done, trapped, Local}

@@ -10,9 +10,9 @@ use Rattle.rev_num.specs.declared.outcome.Cause.TheVariants as cause
 use Rattle.rev_syntax.specs.Trees.{RightSide, plain, called, tried, PrintItem, text, shown, Expression, Expressions, Statement, statement, bind, assign, assign_cell, choose, choose_or, repeat, call, return, fork, join, print, assert, Statements, no_statements, statements, Arms, no_arms, arm, Declaration, fun, merge, shared, proc}
 use Rattle.rev_syntax.specs.Trees as t
 use Rattle.revision_machine.specs.Machine.{Event, Moves, Forks, Joins, Ended}
-use Rattle.merge_decl.specs.Names.{Name, same}
-use Rattle.merge_decl.specs.Value.{and_then, truth_of, number_of}
-use Rattle.rev_types.specs.Layout.{procedures, procedures_from, Procedure}
+use Rattle.name_tables.specs.Names.{Name, same}
+use Rattle.typed_programs.specs.Value.{and_then, truth_of, number_of}
+use Rattle.typed_programs.specs.Layout.{procedures, procedures_from, Procedure}
 use Rattle.block_run.specs.Agreement.{AreInputs}
 use Rattle.revision_calculus.specs.Program.{procedure_named, Setting}
 use Rattle.revision_calculus.specs.State.{view, write_at, Frame, forked, Phase, running, joining, done, trapped, Local}

@@ -4,7 +4,7 @@ use Rattle.std.specs.List.{AllByRecursion}
 use Rattle.rev_num.specs.Limits.{most_fuel}
 use Rattle.rev_num.specs.Path.{Path, before, child}
 use Rattle.rev_num.specs.declared.value.Value.{Value}
-use Rattle.merge_decl.specs.Least.{Among}
+use Rattle.typed_programs.specs.Least.{Among}
 use Rattle.block_run.specs.Agreement.{AreInputs}
 use Rattle.revision_machine.specs.Machine.{Moves, Forks, Entry, Global, Twice, Live, Revisions, Reached}
 use Rattle.revision_machine.specs.Laws.{local_of, Everywhere, HasMain}

@@ -14,10 +14,10 @@ use Rattle.rev_syntax.specs.declared.tree.UnaryOp.{UnaryOp}
 use Rattle.rev_syntax.specs.declared.tree.UnaryOp.TheVariants as u
 use Rattle.rev_syntax.specs.declared.tree.BinaryOp.{BinaryOp}
 use Rattle.rev_syntax.specs.declared.tree.BinaryOp.TheVariants as b
-use Rattle.merge_decl.specs.Names.{Name, same}
+use Rattle.name_tables.specs.Names.{Name, same}
 use Rattle.std.specs.Option.{option_or}
-use Rattle.merge_decl.specs.Value.{Answer, and_then, number_of, truth_of, number, operated, short, linked, reversed, Shared, unknown, scalar, array, Env, read_cell, taken, read_input, read, Fun, Funs, called, value_by, expression_form_value, values_by, chained, FunDef, bind, bind_all, nothing, inside, fun_value, funs_of, same_value}
-use Rattle.merge_decl.specs.Definitions.{fun_def, funs_after, funs_in, MergeDef, merge_def, merges_after, merges_in, merged, merged_by, merge_value_of}
+use Rattle.typed_programs.specs.Value.{Answer, and_then, number_of, truth_of, number, operated, short, linked, reversed, Shared, unknown, scalar, array, Env, read_cell, taken, read_input, read, Fun, Funs, called, value_by, expression_form_value, values_by, chained, FunDef, bind, bind_all, nothing, inside, fun_value, funs_of, same_value}
+use Rattle.typed_programs.specs.Definitions.{fun_def, funs_after, funs_in, MergeDef, merge_def, merges_after, merges_in, merged, merged_by, merge_value_of}
 use Rattle.block_run.specs.Agreement.{AreInputs}
 use Rattle.block_run.proofs.Numbers.{sums, differences, products, quotients, remainders, negations}
 use Rattle.revision_calculus.proofs.Values.{OfOk, then_ok}

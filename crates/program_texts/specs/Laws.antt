@@ -8,7 +8,7 @@ use Rattle.rev_syntax.specs.Tokens.{IsTokens}
 use Rattle.rev_syntax.specs.Trees.{ProgramTree}
 use Rattle.rev_syntax.specs.declared.token.Token.{Token}
 use Rattle.rev_parse.specs.Verdicts.{IsProgram}
-use Rattle.rev_types.specs.Accepted.{IsWellTyped}
+use Rattle.typed_programs.specs.Accepted.{IsWellTyped}
 use Rattle.static_rules.specs.Funs.{KeepsFunRules}
 use Rattle.trace_diagram.specs.Dividing.{IsCutAt}
 

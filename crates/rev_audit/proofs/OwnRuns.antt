@@ -1,8 +1,8 @@
 -- A revision's own run, step by step: what it comes to is its computed part, and the children are those that it forks.
 use Rattle.std.proofs.Common.{◌≡◌, ◌⊎◌, inl, inr, ℕ, List, [], ◌∷◌, ◌++◌, Some, refl, sym, ap, ◌∙◌, subst}
 use Rattle.rev_num.specs.Path.{Path, child}
-use Rattle.merge_decl.specs.Least.{Among}
-use Rattle.merge_decl.proofs.Firsts.{left_among, right_among, last_among}
+use Rattle.typed_programs.specs.Least.{Among}
+use Rattle.typed_programs.proofs.Firsts.{left_among, right_among, last_among}
 use Rattle.revision_machine.specs.Machine.{Forks}
 use Rattle.revision_calculus.specs.Program.{Setting}
 use Rattle.revision_calculus.specs.State.{Local}

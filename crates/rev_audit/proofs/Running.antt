@@ -13,7 +13,7 @@ use Rattle.revision_calculus.proofs.Events.{joins_phase}
 use Rattle.revision_calculus.proofs.Meets.{counts, spends_weight}
 use Rattle.revision_state.specs.Phases.{awaited}
 use Rattle.rev_audit.specs.declared.alone.LocalState.{LocalState}
-use Rattle.rev_audit.specs.declared.ends.AloneEnd.{AloneEnd}
+use Rattle.stated_parts.specs.declared.ends.AloneEnd.{AloneEnd}
 use Rattle.rev_audit.specs.Alone.{JoinsAwaited, JoinsEnd}
 use Rattle.trace_diagram.specs.declared.diagram.Part.{Part}
 use Rattle.audit_rules.specs.Audited.{Computed, made, joined_twice, missing, taken}

@@ -9,8 +9,8 @@ use Rattle.rev_num.proofs.Lists.{get_set, get_set_other, within_some}
 use Rattle.rev_num.proofs.PostOrder.{child_before}
 use Rattle.rev_num.proofs.PostOrder.{before_trans, before_irrefl}
 use Rattle.rev_num.proofs.PostOrder.{before_total}
-use Rattle.merge_decl.specs.Least.{Among}
-use Rattle.merge_decl.proofs.Firsts.{last_among}
+use Rattle.typed_programs.specs.Least.{Among}
+use Rattle.typed_programs.proofs.Firsts.{last_among}
 use Rattle.revision_machine.specs.Machine.{Forks}
 use Rattle.revision_machine.proofs.Paths.{some_inj, decide_same}
 use Rattle.revision_calculus.specs.Program.{Setting}
@@ -33,7 +33,7 @@ use Rattle.audit_rules.proofs.TracesAsParts.{each_is_computed}
 use Rattle.rev_audit.specs.Own.{BeginsAt, ComesTo}
 use Rattle.rev_audit.specs.Sweep.{IsSoonest, sooner_of, Grows, IsSamePart, IsJustified, HasPassed, BeginsUnstated, IsStarts, Holds, BegunFrom, from_main, from_part, AreJustified, Differs, IsKept, ComputedAt, IsSwept, IsAhead, IsBehind}
 use Rattle.rev_audit.specs.declared.sweep.Difference.{Difference}
-use Rattle.rev_audit.proofs.Finding.{ordered, earlier_number, same_number, part_here, place_of_part}
+use Rattle.stated_parts.proofs.Finding.{ordered, earlier_number, same_number, part_here, place_of_part}
 use Rattle.rev_audit.proofs.OwnRuns.{comes_to, all_children, child_begins}
 
 -- ---- lists

@@ -10,8 +10,8 @@ use Rattle.revision_calculus.specs.Program.{Setting}
 use Rattle.revision_calculus.specs.State.{Local, Phase}
 use Rattle.revision_calculus.specs.Calculus.{calculus}
 use Rattle.revision_calculus.specs.Kinded.{IsAccepted, location_kinds}
-use Rattle.revision_steps.specs.Ends.{phase_of}
-use Rattle.rev_audit.specs.declared.ends.AloneEnd.{AloneEnd}
+use Rattle.revision_state.specs.Ends.{phase_of}
+use Rattle.stated_parts.specs.declared.ends.AloneEnd.{AloneEnd}
 use Rattle.rev_audit.specs.Alone.{IsEndOf, JoinsEnd}
 use Rattle.trace_diagram.specs.declared.diagram.Change.{Change}
 use Rattle.trace_diagram.specs.declared.diagram.Part.{Part}
@@ -20,7 +20,7 @@ use Rattle.audit_rules.specs.Parts.{OwnFits, calculus_parts, changes_fit, places
 use Rattle.audit_rules.specs.Traces.{part_at}
 use Rattle.audit_rules.proofs.OwnRuns.{are_length, same_length}
 use Rattle.rev_audit.specs.Own.{TakesOrNot, taken_of}
-use Rattle.rev_audit.specs.Told.{ToldBy}
+use Rattle.stated_parts.specs.Told.{ToldBy}
 
 told_length : (ps : List (List ℕ)) (ts : List ValueKind) (cs : List Change) → length ps ≡ length ts
     → length (told_locations ps ts cs) ≡ length ts

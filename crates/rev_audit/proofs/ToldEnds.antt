@@ -1,5 +1,5 @@
 -- What is told of the end of a revision suffices for its join.
-use Rattle.std.proofs.Common.{◌≡◌, ℕ, suc, ◌+◌, ◌-◌, ◌<◌, ◌≤◌, true, false, cond, List, [], ◌∷◌, length, Option, Some, None, refl, sym, ap, ◌∙◌, subst, arith}
+use Rattle.std.proofs.Common.{◌≡◌, ℕ, suc, ◌≤◌, true, false, cond, List, [], ◌∷◌, length, Option, Some, None, refl, sym, ap, ◌∙◌, subst, arith}
 use Rattle.std.specs.Prelude.{nat_eq}
 use Rattle.std.proofs.lemmas.Bool.Decides.{nat_tests}
 use Rattle.rev_num.specs.Path.{Path}
@@ -9,9 +9,10 @@ use Rattle.revision_calculus.specs.State.{Location, Local}
 use Rattle.revision_calculus.specs.Join.{join}
 use Rattle.determinacy.specs.Ends.{SameWrite, AllSame}
 use Rattle.determinacy.proofs.Joining.{join_same}
-use Rattle.rev_audit.specs.declared.ends.AloneWrite.{AloneWrite}
-use Rattle.rev_audit.specs.declared.ends.AloneEnd.{AloneEnd}
-use Rattle.rev_audit.specs.Alone.{write_of, writes_from, untold, told, told_at, behind, told_from, told_state, JoinsEnd}
+use Rattle.stated_parts.specs.declared.ends.AloneWrite.{AloneWrite}
+use Rattle.stated_parts.specs.declared.ends.AloneEnd.{AloneEnd}
+use Rattle.stated_parts.specs.Ends.{write_of, writes_from, untold, told, told_at, behind, told_from}
+use Rattle.rev_audit.specs.Alone.{told_state, JoinsEnd}
 
 -- ---- writes
 
@@ -65,18 +66,6 @@ told_same n (j ∷ js) = by j.written refl (told_same (suc n) js)
         let e = same_at n w ws refl in
         let first : SameWrite j (told w) = record { written = sym is; base = λ y f. refl } in
         (subst (SameWrite j) (sym e.0) first, subst (λ t. AllSame js (told_from (suc n) (length js) t)) (sym e.1) later)
-
--- one location more
-pub told_more : (n count : ℕ) (ws : List AloneWrite) → n < count
-    → told_from n (count - n) ws ≡ told_at n ws ∷ told_from (n + 1) (count - (n + 1)) (behind n ws)
-told_more n count ws less =
-    let e : count - n ≡ suc (count - (n + 1)) = omega arith in
-    let f : suc n ≡ n + 1 = omega arith in
-    ap (λ k. told_from n k ws) e ∙ ap (λ m. told_at n ws ∷ told_from m (count - (n + 1)) (behind n ws)) f
-
--- none is left
-pub told_all : (n count : ℕ) (ws : List AloneWrite) → count ≤ n → told_from n (count - n) ws ≡ []
-told_all n count ws most = let e : count - n ≡ 0 = omega arith in ap (λ k. told_from n k ws) e
 
 -- ---- the join
 

@@ -2,20 +2,18 @@
 --
 -- `alone_event` is the event that an answer tells, `FitsPhase` when each answer comes; `IsEndOf` says that this is the
 -- end of a revision in that state, `told_state` is a state with such an end, and `JoinsAwaited` what a join leaves.
-use Rattle.std.specs.Prelude.{◌≡◌, ℕ, zero, suc, pos, nat_eq, if◌then◌else◌, List, [], ◌∷◌, length, Option, Some, None}
+use Rattle.std.specs.Prelude.{◌≡◌, ℕ, length, Option, Some, None}
 use Rattle.rev_num.specs.Path.{Path, child}
-use Rattle.rev_num.specs.declared.value.Value.{Value}
-use Rattle.rev_num.specs.declared.value.Value.TheVariants as v
 use Rattle.revision_machine.specs.Machine as machine
 use Rattle.revision_machine.specs.Machine.{Event}
 use Rattle.revision_calculus.specs.Program.{Setting}
-use Rattle.revision_calculus.specs.State.{Location, Phase, running, joining, done, trapped, Local}
+use Rattle.revision_calculus.specs.State.{Phase, running, joining, done, trapped, Local}
 use Rattle.revision_calculus.specs.Join.{join}
-use Rattle.revision_steps.specs.Ends.{phase_of, ended_with}
+use Rattle.revision_state.specs.Ends.{phase_of, ended_with}
 use Rattle.rev_audit.specs.declared.alone.Alone.{Alone}
 use Rattle.rev_audit.specs.declared.alone.Alone.TheVariants.{Moved, Forked, Wants, Ended}
-use Rattle.rev_audit.specs.declared.ends.AloneWrite.{AloneWrite}
-use Rattle.rev_audit.specs.declared.ends.AloneEnd.{AloneEnd}
+use Rattle.stated_parts.specs.declared.ends.AloneEnd.{AloneEnd}
+use Rattle.stated_parts.specs.Ends.{writes_from, told_from}
 
 -- ---- steps
 
@@ -51,46 +49,12 @@ FitsPhase _ _ = ⊥
 
 -- ---- ends
 
--- the write of the location of this number, if it was written, and then the others
-abbrev pub write_of : ℕ → Location → Option Value → List AloneWrite → List AloneWrite
-write_of n m None others = others
-write_of n m (Some x) others = record { location = n; value = x; root = m.base } ∷ others
-
--- the writes of these locations with the values of the snapshot, where the first location has this number
-abbrev pub writes_from : ℕ → List Location → List AloneWrite
-writes_from n [] = []
-writes_from n (m ∷ ms) = write_of n m m.written (writes_from (suc n) ms)
-
 -- what is told of a revision that has ended in this state
 pub record IsEndOf (e : AloneEnd) (l : Local) : Type 0 where
   pub written : e.written.items ≡ writes_from 0 l.locations
   pub text : e.text.items ≡ l.text
   pub fuel : e.fuel ≡ l.fuel
   pub trap : l.phase ≡ phase_of e.trap
-
--- ---- the locations of such a revision
-
--- a location that was not written, whose value in the snapshot is not told
-abbrev pub untold : Location
-untold = record { base = v.Int (pos 0); written = None }
-
-abbrev pub told : AloneWrite → Location
-told w = record { base = w.root; written = Some w.value }
-
--- the location of this number, by the first of these writes, if there is one
-abbrev pub told_at : ℕ → List AloneWrite → Location
-told_at n [] = untold
-told_at n (w ∷ ws) = if nat_eq w.location n then told w else untold
-
--- the writes behind the location of this number
-abbrev pub behind : ℕ → List AloneWrite → List AloneWrite
-behind n [] = []
-behind n (w ∷ ws) = if nat_eq w.location n then ws else w ∷ ws
-
--- so many locations, the first of which has this number, with these writes
-abbrev pub told_from : ℕ → (count : ℕ) → List AloneWrite → List Location
-told_from n zero ws = []
-told_from n (suc count) ws = told_at n ws ∷ told_from (suc n) count (behind n ws)
 
 -- a state with this end and so many locations
 abbrev pub told_state : ℕ → AloneEnd → Local

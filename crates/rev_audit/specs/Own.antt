@@ -10,7 +10,7 @@ use Rattle.revision_calculus.specs.State.{Local}
 use Rattle.revision_calculus.specs.Step.{next}
 use Rattle.revision_calculus.specs.Calculus.{main, calculus}
 use Rattle.rev_audit.specs.declared.alone.LocalState.{LocalState}
-use Rattle.rev_audit.specs.declared.ends.AloneEnd.{AloneEnd}
+use Rattle.stated_parts.specs.declared.ends.AloneEnd.{AloneEnd}
 use Rattle.rev_audit.specs.Alone.{JoinsEnd}
 use Rattle.trace_diagram.specs.declared.diagram.Part.{Part}
 use Rattle.audit_rules.specs.Audited.{Computed, made, joined_twice, missing, IsTwice, taken, Begins}

@@ -12,13 +12,14 @@ ghost use Rattle.rev_audit.specs.Alone.{
   NamesChild,
   StaysAsItWas,
   alone_event,
+  told_state,
 };
 
-use crate::ends::AloneEnd;
 use rev_num::Path;
 use revision_machine::Next;
 use revision_state::Setting;
 use revision_steps::Local;
+use stated_parts::{AloneEnd, told_locations};
 use std::alloc::{AllocError, Global};
 
 /// The local state of a revision with its path, by which its children, handles and traps are named.
@@ -110,6 +111,19 @@ pub fn join_alone<'a>(
     Ok(LocalState { path, local })
 }
 
+/// A state with this end and so many locations.
+fn state_of<'a>(alloc: Global, end: &AloneEnd, count: usize) -> Result<Local<'a>, AllocError>
+    ensures { IfOk result (λ l. l ≡ told_state count end.now) }
+{
+    let locations = told_locations(alloc, count, &end.written)?;
+    let text = Vec::from_slice(alloc, &end.text)?;
+    let trap = match &end.trap {
+        None => None,
+        Some(trap) => Some(trap.copy(alloc)?),
+    };
+    Local::ended(alloc, locations, text, end.fuel, trap)
+}
+
 /// Lets the revision at `path` join the one at `on`, which ended so.
 #[tactic(auto, using(crate::proofs::ToldEnds::joins_told))]
 fn join_end<'a>(
@@ -124,7 +138,7 @@ fn join_end<'a>(
     ensures { OnOk result
         (JoinsEnd (given setting.now) path.now local.old on.now end.now local.new) }
 {
-    let ended = end.state(alloc, local.locations().len())?;
+    let ended = state_of(alloc, end, local.locations().len())?;
     local.settle(alloc, setting, path, on, &ended)
 }
 

@@ -12,13 +12,13 @@ ghost use Rattle.rev_audit.specs.Sweep.{IsAhead, IsBehind, IsSwept};
 use crate::alone::LocalState;
 use crate::run::run_alone;
 use crate::starts::Starts;
-use crate::stated::Stated;
 use crate::sweep::{Difference, first_difference};
 use audit_rules::Verdict;
 use rev_num::Path;
-use rev_types::Typed;
+use stated_parts::Stated;
 use std::alloc::{AllocError, Global};
 use trace_diagram::Trace;
+use typed_programs::Typed;
 
 /// The verdict by the first part that differs, which comes before the revision without a part, or a
 /// yes where no part differs and each revision that begins has one.

@@ -7,14 +7,11 @@ ghost use Rattle.audit_rules.specs.Parts.{OwnFits, calculus_parts, joined_by};
 ghost use Rattle.audit_rules.specs.Audited.{JoinedEarlier};
 ghost use Rattle.audit_rules.specs.Traces.{InPostOrder, part_at};
 ghost use Rattle.rev_audit.specs.Own.{IsJoinee, JoinedBefore, TakesOrNot};
-ghost use Rattle.rev_audit.specs.Tables.{IsSetOf};
+ghost use Rattle.stated_parts.specs.Tables.{IsSetOf};
 
 use crate::alone::LocalState;
-use crate::ends::AloneEnd;
-use crate::path_table::PathTable;
-use crate::stated::Stated;
-use crate::told::told_end;
 use rev_num::Path;
+use stated_parts::{AloneEnd, PathTable, Stated, told_end};
 use std::alloc::{AllocError, Global};
 
 /// What comes of a join.

@@ -9,12 +9,11 @@ ghost use Rattle.rev_audit.specs.Own.{BeginsAt, ComesTo, IsUnderWay, StopsAt};
 
 use crate::alone::{Alone, LocalState, join_alone, step_alone};
 use crate::joinee::{Joinee, joinee_of};
-use crate::path_table::PathTable;
-use crate::stated::Stated;
 use audit_rules::Computed;
 use rev_num::Path;
+use revision_parts::part_of;
+use stated_parts::{PathTable, Stated};
 use std::alloc::{AllocError, Global};
-use trace_parts::part_of;
 
 /// Where a run stands that goes no further by itself.
 #[derive(Drop)]

@@ -1,7 +1,7 @@
 //! Where revisions begin.
 
 ghost use Rattle.std.specs.Prelude.{◌≡◌, None, IfOk, length, replicate};
-ghost use Rattle.merge_decl.specs.Least.{Among};
+ghost use Rattle.typed_programs.specs.Least.{Among};
 ghost use Rattle.revision_state.specs.Views.{given};
 ghost use Rattle.trace_diagram.specs.Traces.{MainIsLast};
 ghost use Rattle.audit_rules.specs.Traces.{InPostOrder};
@@ -9,8 +9,8 @@ ghost use Rattle.rev_audit.specs.Own.{BeginsAt};
 ghost use Rattle.rev_audit.specs.Sweep.{Grows, Holds, IsKept, IsStarts, sooner_of};
 
 use crate::alone::{LocalState, first_alone};
-use crate::stated::Stated;
 use rev_num::Path;
+use stated_parts::Stated;
 use std::alloc::{AllocError, Global};
 
 /// Where the revisions with a stated part begin, by the numbers of their parts, and the first in

@@ -7,10 +7,9 @@ ghost use Rattle.audit_rules.specs.Verdicts.{computed_part};
 ghost use Rattle.rev_audit.specs.Sweep.{ComputedAt, Differs, IsKept, IsSamePart};
 
 use crate::run::run_alone;
-use crate::same::is_same_part;
 use crate::starts::Starts;
-use crate::stated::Stated;
 use audit_rules::Computed;
+use stated_parts::{Stated, is_same_part};
 use std::alloc::{AllocError, Global};
 use trace_diagram::Part;
 

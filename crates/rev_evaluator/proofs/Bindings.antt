@@ -3,10 +3,10 @@ use Rattle.std.proofs.Common.{◌≡◌, ◌∙◌, ℕ, zero, suc, ◌+◌, ◌
 use Rattle.rev_num.specs.declared.value.Value.{Value}
 use Rattle.rev_syntax.specs.View.{parameter}
 use Rattle.rev_syntax.specs.declared.tree.Param.{Param}
-use Rattle.merge_decl.specs.Names.{Name, same}
-use Rattle.merge_decl.specs.Definitions.{names_of}
-use Rattle.merge_decl.specs.Value.{bind, bind_all, nothing}
-use Rattle.merge_decl.specs.Evaluation.{Values}
+use Rattle.name_tables.specs.Names.{Name, same}
+use Rattle.typed_programs.specs.Definitions.{names_of}
+use Rattle.typed_programs.specs.Value.{bind, bind_all, nothing}
+use Rattle.typed_programs.specs.Evaluation.{Values}
 use Rattle.std.specs.Borrow.{Bor}
 use Rattle.rev_evaluator.specs.Seen.{seen}
 use Rattle.rev_evaluator.specs.Locals.{local, locals_step}
@@ -16,8 +16,8 @@ use Rattle.rev_evaluator.specs.declared.locals.Locals.TheOpen.{Locals-F}
 use Rattle.rev_evaluator.specs.declared.locals.Locals.TheFolds.{fold-roll-Locals}
 use Rattle.rev_evaluator.specs.declared.locals.Locals.TheVariants.{rolls-Empty, rolls-Bound, rolls-Passed}
 use Rattle.rev_evaluator.specs.declared.seen.Seen.{Seen}
-use Rattle.merge_decl.proofs.FunSteps.{drop_at}
-use Rattle.merge_decl.proofs.Tables.{or_else}
+use Rattle.typed_programs.proofs.Declared.{drop_at}
+use Rattle.name_tables.proofs.Tables.{or_else}
 
 -- of earlier locals, those of a name alone count for it
 pub bind_all-at : (l m : Values) (ps : List Name) (xs : List Value) (name : Name) → l name ≡ m name

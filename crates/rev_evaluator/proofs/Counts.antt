@@ -2,7 +2,7 @@
 use Rattle.std.proofs.Common.{◌≡◌, ℕ, ◌+◌, ◌*◌, ◌<◌, ◌≤◌, zero, suc, List, [], ◌∷◌, take, Option, Some, None, slice_get, option_and_then, IfSome, arith}
 use Rattle.rev_syntax.specs.Trees.{Expression, placed, Declaration, fun, merge, shared, proc}
 use Rattle.rev_syntax.specs.Small.{expression_count}
-use Rattle.merge_decl.specs.Evaluation.{fun_body, body_at}
+use Rattle.typed_programs.specs.Evaluation.{fun_body, body_at}
 
 -- the bodies of the funs among declarations
 abbrev pub bodies : List Declaration → ℕ

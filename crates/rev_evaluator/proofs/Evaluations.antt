@@ -3,7 +3,7 @@ use Rattle.std.proofs.Common.{◌≡◌, ◌∙◌, ℕ, ℤ, pos, Bool, List, [
 use Rattle.std.proofs.lemmas.List.{length-map}
 use Rattle.rev_syntax.specs.View.{declaration}
 use Rattle.rev_syntax.specs.declared.tree.Decl.{Decl}
-use Rattle.merge_decl.specs.Definitions.{funs_after}
+use Rattle.typed_programs.specs.Definitions.{funs_after}
 use Rattle.rev_num.specs.declared.value.Value.{Value}
 use Rattle.rev_num.specs.declared.value.Value.TheVariants as v
 use Rattle.rev_syntax.specs.Trees as t
@@ -12,9 +12,9 @@ use Rattle.rev_syntax.specs.declared.tree.BinaryOp.{BinaryOp}
 use Rattle.std.specs.Result.{IsErrAnd}
 use Rattle.rev_evaluator.specs.declared.seen.Seen.{Seen}
 use Rattle.rev_evaluator.specs.Seen.{answer}
-use Rattle.merge_decl.specs.Names.{Name}
-use Rattle.merge_decl.specs.Value.{Answer, Env, and_then, bind, bind_all, nothing, read, flag, linked, short, values_by, value_by, value, funs_of}
-use Rattle.merge_decl.specs.Evaluation.{Values, funs_before, value_within, expression_form_within, chained_within, link_within, value_of_body, applied_within, given_within}
+use Rattle.name_tables.specs.Names.{Name}
+use Rattle.typed_programs.specs.Value.{Answer, Env, and_then, bind, bind_all, nothing, read, flag, linked, short, values_by, value_by, value, funs_of}
+use Rattle.typed_programs.specs.Evaluation.{Values, funs_before, value_within, expression_form_within, chained_within, link_within, value_of_body, applied_within, given_within}
 use Rattle.rev_num.specs.declared.outcome.Cause.{Cause}
 
 module _ (es : List Declaration) (n : ℕ) (env : Env) where

@@ -2,15 +2,15 @@
 use Rattle.std.proofs.Common.{◌≡◌, ◌∙◌, ℕ, zero, suc, ◌+◌, ◌<◌, ◌≤◌, Bool, true, false, if◌then◌else◌, List, [], ◌∷◌, take, length, Option, Some, None, slice_get, get_or, option_and_then, option_map, Vec, Global, refl, sym, ap, arith}
 use Rattle.rev_num.specs.declared.value.Value.{Value}
 use Rattle.rev_syntax.specs.Trees.{PlacedName, Expression, Declaration, fun, merge, shared, proc, ProgramTree}
-use Rattle.merge_decl.specs.Names.{Name, same}
-use Rattle.merge_decl.specs.FunRules.{first_fun, merge_decls}
+use Rattle.name_tables.specs.Names.{Name, same}
+use Rattle.typed_programs.specs.FunRules.{first_fun, merge_decls}
 use Rattle.std.specs.Option.{option_or}
-use Rattle.merge_decl.specs.Value.{Fun, FunDef, funs_of, fun_value, called, bind_all, nothing, some_value}
-use Rattle.merge_decl.specs.Definitions.{funs_after, fun_def, merge_def, merges_after, merged_by, merge_value_of}
-use Rattle.merge_decl.specs.Evaluation.{funs_before, value_within, fun_params, fun_body, params_in, params_at, body_within, body_at, value_of_body, IsMeant, declaration_value}
-use Rattle.merge_decl.specs.Expands.{decls_of_merges}
-use Rattle.merge_decl.specs.declared.expand.FunHead.{FunHead}
-use Rattle.merge_decl.specs.declared.expand.MergeRef.{MergeRef}
+use Rattle.typed_programs.specs.Value.{Fun, FunDef, funs_of, fun_value, called, bind_all, nothing, some_value}
+use Rattle.typed_programs.specs.Definitions.{funs_after, fun_def, merge_def, merges_after, merged_by, merge_value_of}
+use Rattle.typed_programs.specs.Evaluation.{funs_before, value_within, fun_params, fun_body, params_in, params_at, body_within, body_at, value_of_body, IsMeant, declaration_value}
+use Rattle.typed_programs.specs.Expands.{decls_of_merges}
+use Rattle.typed_programs.specs.declared.expanded.FunHead.{FunHead}
+use Rattle.typed_programs.specs.declared.expanded.MergeRef.{MergeRef}
 use Rattle.rev_syntax.specs.View.{declaration}
 use Rattle.rev_num.specs.declared.value.ValueKind.{ValueKind}
 use Rattle.rev_syntax.specs.declared.tree.Param.{Param}

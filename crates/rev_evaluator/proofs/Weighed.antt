@@ -1,13 +1,13 @@
 -- The weights of funs by name and by number.
 use Rattle.std.proofs.Common.{◌≡◌, ◌∙◌, ℕ, zero, suc, ◌+◌, ◌<◌, Bool, true, false, if◌then◌else◌, List, [], ◌∷◌, take, length, Option, Some, None, slice_get, option_and_then, refl, sym, ap, arith}
 use Rattle.rev_syntax.specs.Trees.{Expression, Declaration, fun, merge, shared, proc, ProgramTree}
-use Rattle.merge_decl.specs.Names.{Name, same}
-use Rattle.merge_decl.specs.Table.{Table, find, added}
-use Rattle.merge_decl.specs.FunRules.{first_fun, merge_decls}
-use Rattle.merge_decl.specs.Evaluation.{body_at, fun_body}
-use Rattle.merge_decl.specs.Weights.{known_weight, expression_weight, weights_with, weights_after, weights_before, weight_by, weight_at, weight_within, name_within, weight_of, merge_weight, declaration_weight}
-use Rattle.merge_decl.specs.declared.expand.FunHead.{FunHead}
-use Rattle.merge_decl.proofs.Tables.{or_else, find-added}
+use Rattle.name_tables.specs.Names.{Name, same}
+use Rattle.name_tables.specs.Table.{Table, find, added}
+use Rattle.typed_programs.specs.FunRules.{first_fun, merge_decls}
+use Rattle.typed_programs.specs.Evaluation.{body_at, fun_body}
+use Rattle.typed_programs.specs.Weights.{known_weight, expression_weight, weights_with, weights_after, weights_before, weight_by, weight_at, weight_within, name_within, weight_of, merge_weight, declaration_weight}
+use Rattle.typed_programs.specs.declared.expanded.FunHead.{FunHead}
+use Rattle.name_tables.proofs.Tables.{or_else, find-added}
 
 -- what a name has it keeps
 stays : (name : Name) (x : ℕ) (ws : Table ℕ) (es : List Declaration) → find name ws ≡ Some x

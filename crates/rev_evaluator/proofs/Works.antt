@@ -15,16 +15,16 @@ use Rattle.rev_evaluator.specs.declared.work.Pending.TheVariants as wait
 use Rattle.std.specs.Borrow.{Bor}
 use Rattle.rev_syntax.specs.declared.tree.Expr.{Expr}
 use Rattle.rev_syntax.specs.declared.tree.BinaryOp.{BinaryOp}
-use Rattle.merge_decl.specs.Names.{Name}
-use Rattle.merge_decl.specs.Table.{Table}
-use Rattle.merge_decl.specs.Weights.{expression_weight, expression_form_weight, links_weight}
-use Rattle.merge_decl.specs.Value.{Answer, Env, and_then, bind, bind_all, nothing, called, values_by, value_by, linked, number_of, operated, read_input, read_cell, reversed, short, truth_of}
+use Rattle.name_tables.specs.Names.{Name}
+use Rattle.name_tables.specs.Table.{Table}
+use Rattle.typed_programs.specs.Weights.{expression_weight, expression_form_weight, links_weight}
+use Rattle.typed_programs.specs.Value.{Answer, Env, and_then, bind, bind_all, nothing, called, values_by, value_by, linked, number_of, operated, read_input, read_cell, reversed, short, truth_of}
 use Rattle.rev_syntax.specs.declared.tree.UnaryOp.{UnaryOp}
 use Rattle.std.specs.Result.{IsErrAnd}
-use Rattle.merge_decl.specs.Evaluation.{Values, IsMeant, funs_before, value_within, expression_form_within, chained_within, value_of_body, params_at, applied_within, given_within}
+use Rattle.typed_programs.specs.Evaluation.{Values, IsMeant, funs_before, value_within, expression_form_within, chained_within, value_of_body, params_at, applied_within, given_within}
 use Rattle.rev_evaluator.specs.Locals.{local}
 use Rattle.rev_evaluator.specs.Seen.{seen}
-use Rattle.merge_decl.specs.Definitions.{names_of}
+use Rattle.typed_programs.specs.Definitions.{names_of}
 use Rattle.rev_syntax.specs.declared.tree.Param.{Param}
 use Rattle.rev_evaluator.specs.declared.locals.Locals as locals
 use Rattle.rev_evaluator.specs.Work.{waiting, waits, kept, keeps, kept_behind, continued, ended, comes_to, after, goes_on, passed, remains, pending_size, wait_size, link_cost, pending_cost, pending_weight, wait_weight, waiting_weight, application, lasts, without}
@@ -32,9 +32,9 @@ use Rattle.rev_evaluator.specs.declared.work.Turn.{Turn}
 use Rattle.rev_evaluator.specs.declared.work.Call.{Call}
 use Rattle.rev_evaluator.specs.declared.work.Pending.{Pending}
 use Rattle.rev_evaluator.specs.declared.work.Next.TheVariants as next
-use Rattle.merge_decl.proofs.Appends.{appends}
+use Rattle.typed_programs.proofs.Appends.{appends}
 use Rattle.rev_evaluator.proofs.Evaluations.{take_whole, at_placed, prepended, chained_step, chained_none, link_decided}
-use Rattle.merge_decl.proofs.Shapes.{links-first, expression-placed}
+use Rattle.typed_programs.proofs.Shapes.{links-first, expression-placed}
 use Rattle.rev_evaluator.proofs.Bindings.{local-Empty}
 
 -- ---- lists

@@ -1,5 +1,5 @@
 -- What an expression reads: an environment, or inside a fun or a merge its parameters alone.
-use Rattle.merge_decl.specs.Value.{Env, closed}
+use Rattle.typed_programs.specs.Value.{Env, closed}
 use Rattle.rev_evaluator.specs.Locals.{local}
 use Rattle.rev_evaluator.specs.declared.environment.Reads.{Reads}
 use Rattle.rev_evaluator.specs.declared.environment.Reads.TheVariants.{Outside, Inside}

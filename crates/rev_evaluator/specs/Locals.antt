@@ -2,9 +2,9 @@
 use Rattle.std.specs.Prelude.{map, Option}
 use Rattle.rev_num.specs.declared.value.Value.{Value}
 use Rattle.rev_syntax.specs.View.{parameter}
-use Rattle.merge_decl.specs.Names.{Name}
-use Rattle.merge_decl.specs.Definitions.{names_of}
-use Rattle.merge_decl.specs.Value.{bind, bind_all, nothing}
+use Rattle.name_tables.specs.Names.{Name}
+use Rattle.typed_programs.specs.Definitions.{names_of}
+use Rattle.typed_programs.specs.Value.{bind, bind_all, nothing}
 use Rattle.rev_evaluator.specs.Seen.{seen}
 use Rattle.rev_evaluator.specs.declared.locals.Locals.{Locals, fold-Locals}
 use Rattle.rev_evaluator.specs.declared.locals.Locals.TheOpen.{Locals-F}

@@ -3,7 +3,7 @@ use Rattle.std.specs.Prelude.{ℤ, Some, None, Result, Ok, Err}
 use Rattle.rev_num.specs.declared.value.Value.{Value}
 use Rattle.rev_num.specs.declared.value.Value.TheVariants as v
 use Rattle.rev_num.specs.declared.outcome.Cause.{Cause}
-use Rattle.merge_decl.specs.Value.{Answer}
+use Rattle.typed_programs.specs.Value.{Answer}
 use Rattle.rev_evaluator.specs.declared.seen.Seen.{Seen}
 use Rattle.rev_evaluator.specs.declared.seen.Seen.TheVariants.{Int, Bool, Rev}
 

@@ -6,11 +6,11 @@ use Rattle.rev_syntax.specs.Small.{expression_count, expressions_count, links_co
 use Rattle.rev_syntax.specs.Trees as t
 use Rattle.rev_syntax.specs.Trees.{Expressions, ExpressionForm, Links}
 use Rattle.rev_syntax.specs.View.{expression, expressions, links}
-use Rattle.merge_decl.specs.Names.{Name}
-use Rattle.merge_decl.specs.Table.{Table, find}
-use Rattle.merge_decl.specs.Weights.{known_weight, expression_weight, expressions_weight, links_weight}
-use Rattle.merge_decl.specs.Value.{Answer, Env, and_then, called, values_by, read_cell, read_input, number_of, truth_of, reversed, operated}
-use Rattle.merge_decl.specs.Evaluation.{funs_before, value_within, chained_within}
+use Rattle.name_tables.specs.Names.{Name}
+use Rattle.name_tables.specs.Table.{Table, find}
+use Rattle.typed_programs.specs.Weights.{known_weight, expression_weight, expressions_weight, links_weight}
+use Rattle.typed_programs.specs.Value.{Answer, Env, and_then, called, values_by, read_cell, read_input, number_of, truth_of, reversed, operated}
+use Rattle.typed_programs.specs.Evaluation.{funs_before, value_within, chained_within}
 use Rattle.rev_syntax.specs.Trees.{Declaration}
 use Rattle.rev_evaluator.specs.Seen.{seen}
 use Rattle.rev_evaluator.specs.declared.seen.Seen.{Seen}

@@ -1,8 +1,8 @@
 //! What an expression reads beside its own parts.
 
 ghost use Rattle.std.specs.Prelude.{◌≡◌, Ok, length, option_map, pos};
-ghost use Rattle.merge_decl.specs.Value as spec;
-ghost use Rattle.merge_decl.specs.Value.{Env};
+ghost use Rattle.typed_programs.specs.Value as spec;
+ghost use Rattle.typed_programs.specs.Value.{Env};
 ghost use Rattle.rev_evaluator.specs.Environment.{reads};
 ghost use Rattle.rev_evaluator.specs.Seen.{answer, input_answer, seen};
 

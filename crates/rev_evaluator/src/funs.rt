@@ -3,13 +3,13 @@
 ghost use Rattle.std.specs.Prelude.{◌≡◌, ◌<◌, ◌≤◌, IfSome, drop, map, option_map, slice_get};
 ghost use Rattle.std.specs.Option.{option_copied};
 ghost use Rattle.rev_syntax.specs.View.{declaration, expression, parameter};
-ghost use Rattle.merge_decl.specs.Definitions.{names_of};
-ghost use Rattle.merge_decl.specs.Evaluation as meant;
-ghost use Rattle.merge_decl.specs.Weights.{name_within, weight_of};
+ghost use Rattle.typed_programs.specs.Definitions.{names_of};
+ghost use Rattle.typed_programs.specs.Evaluation as meant;
+ghost use Rattle.typed_programs.specs.Weights.{name_within, weight_of};
 ghost use Rattle.rev_evaluator.specs.Declarations.{declared_by};
 
-use merge_decl::Expanded;
 use rev_syntax::{Decl, Expr, Name, Param};
+use typed_programs::Expanded;
 
 /// The declaration of the fun that a name means among the program's first `within` declarations.
 pub fn fun_before(expanded: &Expanded, within: usize, name: &Name) -> Option<usize>
@@ -24,7 +24,7 @@ pub fn fun_before(expanded: &Expanded, within: usize, name: &Name) -> Option<usi
 }
 
 /// The declaration of this number.
-#[tactic(auto, using(merge_decl::proofs::Declared::slice_get_mapped))]
+#[tactic(auto, using(typed_programs::proofs::Declared::slice_get_mapped))]
 pub fn declared(expanded: &Expanded, number: usize) -> Option<&Decl>
     ensures { option_map declaration (option_copied result)
         ≡ slice_get (declared_by expanded.now) number }

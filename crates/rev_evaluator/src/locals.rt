@@ -2,8 +2,8 @@
 
 ghost use Rattle.std.specs.Prelude.{◌≡◌, map, option_map};
 ghost use Rattle.rev_syntax.specs.View.{parameter};
-ghost use Rattle.merge_decl.specs.Definitions.{names_of};
-ghost use Rattle.merge_decl.specs.Value as spec;
+ghost use Rattle.typed_programs.specs.Definitions.{names_of};
+ghost use Rattle.typed_programs.specs.Value as spec;
 ghost use Rattle.rev_evaluator.specs.Locals.{local};
 ghost use Rattle.rev_evaluator.specs.Seen.{seen};
 

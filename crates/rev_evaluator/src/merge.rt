@@ -5,11 +5,11 @@ ghost use Rattle.rev_num.specs.declared.value.Value.TheVariants as v;
 ghost use Rattle.rev_syntax.specs.View.{declaration, expression, program as whole};
 ghost use Rattle.rev_report.specs.Limits.{most};
 ghost use Rattle.rev_report.specs.declared.limit.Limit.TheVariants as limits;
-ghost use Rattle.merge_decl.specs.Definitions.{merge_value_of};
-ghost use Rattle.merge_decl.specs.Evaluation as meant;
-ghost use Rattle.merge_decl.specs.Value.{bind, closed};
-ghost use Rattle.merge_decl.specs.Weights.{declaration_weight, merge_weight, weight_within};
-ghost use Rattle.merge_decl.specs.Weights.{weights_before};
+ghost use Rattle.typed_programs.specs.Definitions.{merge_value_of};
+ghost use Rattle.typed_programs.specs.Evaluation as meant;
+ghost use Rattle.typed_programs.specs.Value.{bind, closed};
+ghost use Rattle.typed_programs.specs.Weights.{declaration_weight, merge_weight, weight_within};
+ghost use Rattle.typed_programs.specs.Weights.{weights_before};
 ghost use Rattle.rev_evaluator.specs.Declarations.{declared_by};
 ghost use Rattle.rev_evaluator.specs.Locals.{local};
 ghost use Rattle.rev_evaluator.specs.Seen.{answer};
@@ -20,10 +20,10 @@ use crate::locals::{Locals, bound};
 use crate::operators::number;
 use crate::seen::Seen;
 use crate::value::{Scope, take_turns};
-use merge_decl::Expanded;
 use rev_num::{Cause, NumFault};
 use rev_report::Limit;
 use rev_syntax::{Decl, Expr, Name};
+use typed_programs::Expanded;
 
 /// What is answered for the value of a merge.
 fn outcome(value: Result<Seen, Cause>) -> Result<i64, NumFault>

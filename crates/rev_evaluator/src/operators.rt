@@ -1,7 +1,7 @@
 //! The operators.
 
 ghost use Rattle.std.specs.Prelude.{◌≡◌, option_map};
-ghost use Rattle.merge_decl.specs.Value as spec;
+ghost use Rattle.typed_programs.specs.Value as spec;
 ghost use Rattle.rev_evaluator.specs.Seen.{answer, seen};
 
 use crate::seen::Seen;

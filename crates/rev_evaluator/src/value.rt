@@ -2,10 +2,10 @@
 
 ghost use Rattle.std.specs.Prelude.{◌≡◌, ◌<◌, ◌≤◌, ◌+◌, ◌++◌, IfSome, map};
 ghost use Rattle.rev_syntax.specs.View.{expression, expressions, parameter, program as whole};
-ghost use Rattle.merge_decl.specs.Definitions.{funs_in, names_of};
-ghost use Rattle.merge_decl.specs.Evaluation as meant;
-ghost use Rattle.merge_decl.specs.Value.{value};
-ghost use Rattle.merge_decl.specs.Weights.{args_within, name_within, weight_of, weight_within};
+ghost use Rattle.typed_programs.specs.Definitions.{funs_in, names_of};
+ghost use Rattle.typed_programs.specs.Evaluation as meant;
+ghost use Rattle.typed_programs.specs.Value.{value};
+ghost use Rattle.typed_programs.specs.Weights.{args_within, name_within, weight_of, weight_within};
 ghost use Rattle.rev_evaluator.specs.Declarations.{declared_by};
 ghost use Rattle.rev_evaluator.specs.Environment as spec;
 ghost use Rattle.rev_evaluator.specs.Locals.{local};
@@ -17,9 +17,9 @@ use crate::funs::{behind, body_at, fun_before, params_at};
 use crate::locals::{Locals, arguments, bound};
 use crate::seen::Seen;
 use crate::work::{Call, Next, Pending, ROOM, begin, give, keep, wait};
-use merge_decl::Expanded;
 use rev_num::Cause;
 use rev_syntax::{Expr, Param};
+use typed_programs::Expanded;
 
 /// What an expression knows: the program, how many of its first declarations may be used, and what
 /// it reads.

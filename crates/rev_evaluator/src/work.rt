@@ -7,7 +7,7 @@ ghost use Rattle.rev_syntax.specs.Trees.{Declaration, apply};
 ghost use Rattle.rev_syntax.specs.View.{links, expression_form, expression, expressions};
 ghost use Rattle.rev_syntax.specs.View.{placed_name};
 ghost use Rattle.rev_syntax.specs.Small.{links_count, expression_count, expressions_count};
-ghost use Rattle.merge_decl.specs.Evaluation.{chained_within, expression_form_within, value_within};
+ghost use Rattle.typed_programs.specs.Evaluation.{chained_within, expression_form_within, value_within};
 ghost use Rattle.rev_evaluator.specs.Environment as spec;
 ghost use Rattle.rev_evaluator.specs.Seen.{seen};
 ghost use Rattle.rev_evaluator.specs.Work.{after, application, call_turn, continued, ended};
@@ -15,10 +15,10 @@ ghost use Rattle.rev_evaluator.specs.Work.{goes_on, kept, kept_behind, keeps, la
 ghost use Rattle.rev_evaluator.specs.Work.{part_cost, part_turn, pending_cost, pending_size};
 ghost use Rattle.rev_evaluator.specs.Work.{pending_weight, turn_size, turn_weight, value_turn};
 ghost use Rattle.rev_evaluator.specs.Work.{waiting, waits, without};
-ghost use Rattle.merge_decl.specs.Table.{Table, find};
-ghost use Rattle.merge_decl.specs.Weights.{known_weight, links_weight, expression_weight};
-ghost use Rattle.merge_decl.specs.Weights.{expressions_weight};
-ghost use Rattle.merge_decl.specs.Value.{Env};
+ghost use Rattle.name_tables.specs.Table.{Table, find};
+ghost use Rattle.typed_programs.specs.Weights.{known_weight, links_weight, expression_weight};
+ghost use Rattle.typed_programs.specs.Weights.{expressions_weight};
+ghost use Rattle.typed_programs.specs.Value.{Env};
 ghost use Rattle.rev_evaluator.specs.declared.work.Pending.{Pending as Waits};
 ghost use Rattle.rev_evaluator.specs.declared.work.Pending.TheVariants as on;
 

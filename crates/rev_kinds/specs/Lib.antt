@@ -1,7 +1,2 @@
--- Definitions of rev_kinds: the rules on names and kinds of expressions.
-pub mod Faults
-pub mod Kinds
-pub mod Laws
-pub mod Rules
-pub mod Typing
+-- Definitions of rev_kinds: the rules on expressions by the first of two faults.
 pub mod Walk

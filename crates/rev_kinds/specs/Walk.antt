@@ -4,15 +4,15 @@ use Rattle.rev_num.specs.declared.value.ValueKind.{ValueKind}
 use Rattle.rev_syntax.specs.Trees.{PlacedName, Parameter, Expression, ExpressionForm, Expressions, Links, RightSide}
 use Rattle.rev_syntax.specs.View.{parameter}
 use Rattle.rev_syntax.specs.declared.tree.BinaryOp.{BinaryOp}
-use Rattle.merge_decl.specs.Least.{first_of}
-use Rattle.merge_decl.specs.Table.{find}
-use Rattle.rev_kinds.specs.declared.fault.TypeFault.{TypeFault}
-use Rattle.rev_kinds.specs.declared.names.Holder.{Holder}
+use Rattle.typed_programs.specs.Least.{first_of}
+use Rattle.name_tables.specs.Table.{find}
+use Rattle.typed_programs.specs.declared.fault.TypeFault.{TypeFault}
+use Rattle.typed_programs.specs.declared.names.Holder.{Holder}
 use Rattle.rev_kinds.specs.declared.names.Callee as held
 use Rattle.rev_kinds.specs.declared.names.Checker as held_checker
-use Rattle.rev_kinds.specs.Faults.{place, rank}
-use Rattle.rev_kinds.specs.Kinds.{Callee, Names, Locals}
-use Rattle.rev_kinds.specs.Rules as r
+use Rattle.typed_programs.specs.Faults.{place, rank}
+use Rattle.typed_programs.specs.Kinds.{Callee, Names, Locals}
+use Rattle.typed_programs.specs.Rules as r
 
 -- ---- views
 

@@ -4,18 +4,19 @@ ghost use Rattle.std.specs.Prelude.{◌≡◌, map, option_map, slice_get};
 ghost use Rattle.std.specs.Option.{option_copied};
 ghost use Rattle.rev_syntax.specs.View.{parameter, links, right_side, expression_form};
 ghost use Rattle.rev_syntax.specs.View.{expression, expressions, placed_name};
-ghost use Rattle.merge_decl.specs.FunRules.{count};
-ghost use Rattle.rev_kinds.specs.Kinds as kind;
+ghost use Rattle.typed_programs.specs.FunRules.{count};
+ghost use Rattle.typed_programs.specs.Kinds as kind;
 ghost use Rattle.rev_kinds.specs.Walk as rule;
 
-use crate::fault::{TypeFault, first};
+use crate::fault::first;
 use crate::kinds::{
     alike, array_use, callee_use, first_operand, fits, input_use, links_kind, name_kind,
     operand_kind, params_of, result_of, result_use, right_operand, scalar_use, wants,
 };
-use crate::names::{Callee, Checker, Holder, Locals};
+use crate::names::{Callee, Checker, Locals};
 use rev_num::ValueKind;
 use rev_syntax::{Expr, Link, Name, Node, Param, Rhs};
+use typed_programs::{Holder, TypeFault};
 
 /// An expression that was checked: its kind, if it has one, and the first rule that it breaks.
 #[derive(Clone, Copy, Drop)]
@@ -34,7 +35,7 @@ impl CheckedExpression {
 }
 
 /// The parameter of this number.
-#[tactic(auto, using(merge_decl::proofs::Declared::slice_get_mapped))]
+#[tactic(auto, using(typed_programs::proofs::Declared::slice_get_mapped))]
 fn param_at(params: &[Param], i: usize) -> Option<&Param>
     ensures { option_map parameter (option_copied result) ≡ slice_get (map parameter params.now) i }
 {
@@ -200,7 +201,7 @@ impl<'a> Checker<'_, 'a> {
     }
 
     /// A name after `call` or `rfork`, which means this procedure if it means one, with its arguments.
-    #[tactic(auto, using(merge_decl::proofs::Appends::count_expressions))]
+    #[tactic(auto, using(typed_programs::proofs::Appends::count_expressions))]
     fn call_of(
         &self,
         locals: &Locals,

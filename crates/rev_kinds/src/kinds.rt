@@ -3,13 +3,14 @@
 ghost use Rattle.std.specs.Prelude.{◌≡◌, map, option_map};
 ghost use Rattle.std.specs.Option.{option_copied};
 ghost use Rattle.rev_syntax.specs.View.{parameter, links, placed_name};
-ghost use Rattle.rev_kinds.specs.Kinds as kind;
+ghost use Rattle.typed_programs.specs.Kinds as kind;
 ghost use Rattle.rev_kinds.specs.Walk as rule;
 
-use crate::fault::{TypeFault, first};
-use crate::names::{Callee, Holder};
+use crate::fault::first;
+use crate::names::Callee;
 use rev_num::{ValueKind, same_kind};
 use rev_syntax::{BinaryOp, Link, Name, Param, UnaryOp};
+use typed_programs::{Holder, TypeFault};
 
 /// The kind of a name: of a local, or else of a shared variable.
 pub fn name_kind(local: Option<Option<ValueKind>>, shared: Option<Holder>) -> Option<ValueKind>

@@ -1,6 +1,6 @@
 //! What the rules on kinds say of expressions.
 
-ghost use Rattle.rev_kinds.specs.Laws.{Sound, Complete, Only};
+ghost use Rattle.typed_programs.specs.KindLaws.{Sound, Complete, Only};
 
 /// Where each local has a kind and each application is that of a known fun, an expression that
 /// breaks no rule has a kind by the typing rules, which is the kind that its outermost form fixes.

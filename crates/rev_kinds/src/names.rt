@@ -1,15 +1,9 @@
 //! What the names of a program mean.
 
-use merge_decl::NameTable;
+use name_tables::NameTable;
 use rev_num::ValueKind;
 use rev_syntax::Param;
-
-/// A shared variable: the kind of its values, and whether it is an array.
-#[derive(Clone, Copy, Drop)]
-pub struct Holder {
-    pub kind: ValueKind,
-    pub array: bool,
-}
+use typed_programs::Holder;
 
 /// A fun or a procedure: its parameters, and the kind of its result, if it has one.
 #[derive(Clone, Copy, Drop)]

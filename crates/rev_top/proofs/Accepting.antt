@@ -11,12 +11,12 @@ use Rattle.rev_messages.specs.Refusals.{shown}
 use Rattle.rev_messages.specs.declared.refusal.Refusal.{Refusal}
 use Rattle.rev_syntax.specs.Trees.{ProgramTree}
 use Rattle.rev_top.specs.Accepted.{Accepted, IsSound}
-use Rattle.rev_top.specs.Answer.{Answer, Fits, RunsTo, Says, SaysAs, reads, reads_of, source_limit}
+use Rattle.mode_reports.specs.Answer.{Answer, Fits, RunsTo, Says, SaysAs, reads, reads_of, source_limit}
 use Rattle.rev_top.specs.Delivery.{Wrote}
 use Rattle.rev_top.specs.Promises.{Calm, Feeds, IsWritten}
-use Rattle.rev_top.specs.Stages.{Onward, Then}
-use Rattle.rev_top.specs.Texts.{Checks}
-use Rattle.rev_top.proofs.Faults.{one_check}
+use Rattle.mode_reports.specs.Stages.{Onward, Then}
+use Rattle.mode_reports.specs.Texts.{Checks}
+use Rattle.mode_reports.proofs.Faults.{one_check}
 use Rattle.rev_top.proofs.Writing.{said, sound_checks}
 
 module _ (w : Words) (text : List ℕ) (short : length text ≤ source_limit) (s : IsSound text) where

@@ -14,24 +14,24 @@ use Rattle.rev_report.specs.Outcome.{report}
 use Rattle.rev_messages.specs.Modes.{ordered, reused, summary, traced}
 use Rattle.rev_messages.specs.Refusals.{shown, status_of}
 use Rattle.rev_messages.specs.declared.refusal.Refusal.{Refusal}
-use Rattle.rev_top.specs.Stages.{Onward, Then}
-use Rattle.rev_top.specs.Texts.{Checks}
+use Rattle.mode_reports.specs.Stages.{Onward, Then}
+use Rattle.mode_reports.specs.Texts.{Checks}
 use Rattle.rev_code.specs.declared.code.Code.{Code}
 use Rattle.code_generation.specs.Generated.{code_of}
 use Rattle.revision_calculus.specs.Program.{Setting}
 use Rattle.trace_diagram.specs.declared.diagram.Trace.{Trace}
 use Rattle.audit_rules.specs.declared.verdict.Verdict.{Verdict}
 use Rattle.audit_rules.specs.declared.verdict.Verdict.TheVariants as verdict
-use Rattle.rev_top.specs.Codes.{ChecksCode}
-use Rattle.rev_top.specs.Traces.{Judges, Parts, ReadsTrace, Splits, answer_of, text_of}
-use Rattle.rev_top.specs.Answer.{Accepts, Answer, Answers, AuditsParts, AuditsTrace, Emits, Fits, Given, Lists, Orders, Repeats, Replays, RunsCode, RunsTo, Says, SaysAs, Streams, Traces, code_run, reads, reads_of, setting}
-use Rattle.rev_top.specs.Schedules.{ReplaysCode}
+use Rattle.mode_reports.specs.Codes.{ChecksCode}
+use Rattle.mode_reports.specs.Traces.{Judges, Parts, ReadsTrace, Splits, answer_of, text_of}
+use Rattle.mode_reports.specs.Answer.{Accepts, Answer, Answers, AuditsParts, AuditsTrace, Emits, Fits, Given, Lists, Orders, Repeats, Replays, RunsCode, RunsTo, Says, SaysAs, Streams, Traces, code_run, reads, reads_of, setting}
+use Rattle.mode_reports.specs.Schedules.{ReplaysCode}
 use Rattle.rev_top.specs.Promises.{Feeds, IsRefused}
-use Rattle.rev_top.specs.Affine.{KeepsAffine}
-use Rattle.rev_top.proofs.Codes.{code_refused}
-use Rattle.rev_top.proofs.Faults.{text_refused}
+use Rattle.mode_reports.specs.Affine.{KeepsAffine}
+use Rattle.mode_reports.proofs.Codes.{code_refused}
+use Rattle.mode_reports.proofs.Faults.{text_refused}
 use Rattle.rev_top.proofs.Handles.{affine_refused}
-use Rattle.rev_top.proofs.Replaying.{replay_refused}
+use Rattle.mode_reports.proofs.Replaying.{replay_refused}
 
 -- ---- the status of what a mode says
 

@@ -19,10 +19,10 @@ use Rattle.audit_rules.specs.declared.verdict.Verdict.TheVariants as verdict
 use Rattle.audit_rules.proofs.Verdicts.{each_has_one}
 use Rattle.program_texts.specs.Verdicts.{SameVerdict}
 use Rattle.program_texts.proofs.OneVerdict.{text_has_one}
-use Rattle.rev_top.specs.Answer.{Answer, AuditsTrace, setting}
-use Rattle.rev_top.specs.Stages.{Onward}
-use Rattle.rev_top.specs.Traces.{Judges, Parts, ReadsTrace, Splits, answer_of}
-use Rattle.rev_top.proofs.Stages.{One}
+use Rattle.mode_reports.specs.Answer.{Answer, AuditsTrace, setting}
+use Rattle.mode_reports.specs.Stages.{Onward}
+use Rattle.mode_reports.specs.Traces.{Judges, Parts, ReadsTrace, Splits, answer_of}
+use Rattle.mode_reports.proofs.Stages.{One}
 
 -- ---- the parts of a source
 

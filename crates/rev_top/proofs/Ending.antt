@@ -11,8 +11,8 @@ use Rattle.rev_report.specs.declared.report.Report.{Report}
 use Rattle.rev_report.specs.Status.{no_memory_status, write_fault_status}
 use Rattle.rev_top.specs.Delivery.{Delivered, NoReport, all_written, err_failed, no_room_at_err, no_room_at_out, out_failed}
 use Rattle.rev_top.specs.Streaming.{DeliversRefusal}
-use Rattle.rev_top.specs.declared.stop.Stop.{Stop}
-use Rattle.rev_top.specs.declared.stop.Stop.TheVariants as stops
+use Rattle.mode_reports.specs.declared.stop.Stop.{Stop}
+use Rattle.mode_reports.specs.declared.stop.Stop.TheVariants as stops
 
 module _ (o : Output) (old new err err' : Stream) (took : Took old o.out new) where
   pub wrote : (bytes : List ℕ) → bytes ≡ o.err → (status : ℕ) → status ≡ o.status → Took err bytes err'

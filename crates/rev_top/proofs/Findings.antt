@@ -11,18 +11,18 @@ use Rattle.rev_parse.specs.Verdicts.{Verdict, tree, unexpected, too_deep, IsVerd
 use Rattle.rev_parse.proofs.OneVerdict.{one_verdict}
 use Rattle.rev_parse.proofs.SomeVerdict.{some_verdict}
 use Rattle.rev_parse.proofs.SmallPrograms.{program_small}
-use Rattle.merge_decl.specs.declared.expand.MergeFault.{MergeFault}
-use Rattle.rev_kinds.specs.declared.fault.TypeFault.{TypeFault}
-use Rattle.rev_types.proofs.Accepting.{accepts}
+use Rattle.typed_programs.specs.declared.fun_fault.MergeFault.{MergeFault}
+use Rattle.typed_programs.specs.declared.fault.TypeFault.{TypeFault}
+use Rattle.typed_programs.proofs.Accepting.{accepts}
 use Rattle.static_rules.specs.Front.{Outcome, fault_in}
 use Rattle.static_rules.specs.Front as outcome
 use Rattle.static_rules.proofs.FunFaults.{funs_kept}
 use Rattle.static_rules.specs.Breaks.{BreaksNone}
 use Rattle.static_rules.proofs.Fronts.{has_one, none_broken, typed_where_none}
 use Rattle.rev_messages.specs.declared.refusal.Refusal.{Refusal}
-use Rattle.rev_top.specs.Answer.{source_limit}
-use Rattle.rev_top.specs.Stages.{Onward}
-use Rattle.rev_top.specs.Texts.{Checks, ChecksTokens, ChecksTree, Cuts, KeepsFuns, KeepsTypes, reading}
+use Rattle.mode_reports.specs.Answer.{source_limit}
+use Rattle.mode_reports.specs.Stages.{Onward}
+use Rattle.mode_reports.specs.Texts.{Checks, ChecksTokens, ChecksTree, Cuts, KeepsFuns, KeepsTypes, reading}
 use Rattle.rev_top.specs.Findings.{Finding, lexical, syntax, of_funs, of_rules, accepted, HasVerdict, IsSyntaxFault, IsFinding, IsReady, HasOneFinding, FrontEnd}
 
 module _ (text : List ℕ) (short : length text ≤ source_limit) where

@@ -13,11 +13,11 @@ use Rattle.affine_check.proofs.Places.{decided}
 use Rattle.affine_check.specs.Faults.{Refuses}
 use Rattle.affine_check.specs.declared.fault.AffineFault.{AffineFault}
 use Rattle.affine_check.specs.declared.fault.AffineFault.TheVariants as affine
-use Rattle.rev_top.specs.Affine.{KeepsAffine, breach_fault, report_of_affine}
-use Rattle.rev_top.specs.Stops.{Meets, stop_of}
-use Rattle.rev_top.specs.Texts.{fault_at}
-use Rattle.rev_top.specs.declared.stop.Stop.{Stop}
-use Rattle.rev_top.proofs.Stages.{One}
+use Rattle.mode_reports.specs.Affine.{KeepsAffine, breach_fault, report_of_affine}
+use Rattle.mode_reports.specs.Stops.{Meets, stop_of}
+use Rattle.mode_reports.specs.Texts.{fault_at}
+use Rattle.mode_reports.specs.declared.stop.Stop.{Stop}
+use Rattle.mode_reports.proofs.Stages.{One}
 
 same_breach : (b c : Breach) → number b ≡ number c → b ≡ c
 same_breach copied copied e = refl

@@ -6,16 +6,16 @@ use Rattle.rev_words.specs.declared.Mode.{Mode}
 use Rattle.rev_words.specs.declared.Words.{Words}
 use Rattle.rev_report.specs.declared.report.Report.{Report}
 use Rattle.rev_syntax.specs.Trees.{Expression, ProgramTree}
-use Rattle.rev_types.specs.Layout.{variables}
+use Rattle.typed_programs.specs.Layout.{variables}
 use Rattle.revision_calculus.specs.Join.{merges_of}
 use Rattle.kernel_choices.specs.Choices.{AreChoices}
 use Rattle.thread_runs.specs.declared.ran.Ran.{Ran}
-use Rattle.rev_top.specs.Answer.{Given, reads_of}
+use Rattle.mode_reports.specs.Answer.{Given, reads_of}
 use Rattle.rev_top.specs.Kernels.{HasChosen, HasChosenIn, KernelsOf, text_of}
 use Rattle.rev_top.specs.Making.{without_run}
-use Rattle.rev_top.specs.Texts.{Checks}
+use Rattle.mode_reports.specs.Texts.{Checks}
 use Rattle.rev_top.specs.declared.made.Made.{Made}
-use Rattle.rev_top.specs.declared.stop.Stop.{Stop}
+use Rattle.mode_reports.specs.declared.stop.Stop.{Stop}
 
 -- a run hands out the choices of the plan that was made of these
 pub run_planned : {E : Type 0} (p : ProgramTree) (kernels : List Expression) (choices planned : Vec (Option ℕ) Global)

@@ -1,10 +1,7 @@
 -- Proofs of rev_top: the top call with its promises.
 pub mod Accepting
 pub mod Answering
-pub mod CodeRuns
-pub mod Codes
 pub mod Ending
-pub mod Faults
 pub mod Findings
 pub mod PromisesKept
 pub mod Kernels
@@ -13,10 +10,8 @@ pub mod Handles
 pub mod Listings
 pub mod OneAnswers
 pub mod Rans
+pub mod RunsByThreads
 pub mod Real
-pub mod Repeating
-pub mod Replaying
-pub mod Stages
 pub mod StreamAnswers
 pub mod StreamLaws
 pub mod Steps

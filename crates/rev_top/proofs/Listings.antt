@@ -12,11 +12,11 @@ use Rattle.rev_messages.specs.declared.refusal.Refusal.{Refusal}
 use Rattle.rev_words.specs.declared.Mode.{Mode}
 use Rattle.rev_words.specs.declared.Mode.TheVariants as modes
 use Rattle.rev_words.specs.declared.Words.{Words}
-use Rattle.rev_top.specs.Answer.{Fits, Lists, SaysAs, file_limit, reads_of}
-use Rattle.rev_top.specs.Codes.{ChecksCode, KeepsCodeRules, ReadsFile}
-use Rattle.rev_top.specs.Stages.{Onward, Then}
+use Rattle.mode_reports.specs.Answer.{Fits, Lists, SaysAs, file_limit, reads_of}
+use Rattle.mode_reports.specs.Codes.{ChecksCode, KeepsCodeRules, ReadsFile}
+use Rattle.mode_reports.specs.Stages.{Onward, Then}
 use Rattle.rev_top.specs.Statuses.{IsSoundFile, ListingLaw}
-use Rattle.rev_top.proofs.Codes.{is_read}
+use Rattle.mode_reports.proofs.Codes.{is_read}
 
 -- code that was read and keeps all rules
 checked : (bytes : List ℕ) (c : Code) → ChecksCode bytes (Ok c) → (reading bytes ≡ Got c []) × KeepsRules c

@@ -26,29 +26,29 @@ use Rattle.rev_report.specs.Report.{done}
 use Rattle.code_file.specs.Files.{file_of}
 use Rattle.code_generation.specs.Generated.{code_of}
 use Rattle.code_listing.specs.Listing.{listing}
-use Rattle.rev_top.specs.Affine.{KeepsAffine}
-use Rattle.rev_top.specs.Codes.{ChecksCode}
-use Rattle.rev_top.specs.Stages.{Onward, Then}
-use Rattle.rev_top.specs.Texts.{Checks, ChecksTree, reading as read_of}
+use Rattle.mode_reports.specs.Affine.{KeepsAffine}
+use Rattle.mode_reports.specs.Codes.{ChecksCode}
+use Rattle.mode_reports.specs.Stages.{Onward, Then}
+use Rattle.mode_reports.specs.Texts.{Checks, ChecksTree, reading as read_of}
 use Rattle.rev_top.specs.Findings.{Finding, lexical, syntax, of_funs, of_rules, accepted as accepts, HasVerdict, IsFinding, IsSyntaxFault}
-use Rattle.rev_top.specs.Answer.{Accepts, Answer, AuditsParts, AuditsTrace, Emits, Fits, IsWithin, Lists, Orders, Repeats, Replays, RunsCode, RunsTo, Says, SaysAs, Streams, Traces, code_run, code_run_before, reads_of, setting, source_limit}
-use Rattle.rev_top.specs.Schedules.{ReplaysCode}
+use Rattle.mode_reports.specs.Answer.{Accepts, Answer, AuditsParts, AuditsTrace, Emits, Fits, IsWithin, Lists, Orders, Repeats, Replays, RunsCode, RunsTo, Says, SaysAs, Streams, Traces, code_run, code_run_before, reads_of, setting, source_limit}
+use Rattle.mode_reports.specs.Schedules.{ReplaysCode}
 use Rattle.code_verifier.specs.Verdicts.{KeepsRules}
 use Rattle.code_machine_laws.proofs.Outcomes.{each_has_one}
 use Rattle.memo_runs.proofs.Making.{each_has_memo, each_is_reused}
 use Rattle.memo_runs.proofs.OneNumber.{one_reused}
 use Rattle.rev_top.specs.Statuses.{EndAlike, HasOneAnswer, IsOrder, OneAnswer}
 use Rattle.program_meaning.proofs.Outcomes.{of_code}
-use Rattle.rev_top.specs.Traces.{Splits, text_of}
+use Rattle.mode_reports.specs.Traces.{Splits, text_of}
 use Rattle.rev_top.proofs.Auditing.{one_audited, one_split, some_audited, some_split}
-use Rattle.rev_top.proofs.Codes.{kept_of, one_code, some_code}
-use Rattle.rev_top.proofs.Faults.{one_check}
+use Rattle.mode_reports.proofs.Codes.{kept_of, one_code, some_code}
+use Rattle.mode_reports.proofs.Faults.{one_check}
 use Rattle.rev_top.proofs.Findings.{front_end}
 use Rattle.rev_top.proofs.Handles.{one_affine, some_affine}
 use Rattle.rev_top.proofs.Real.{funs_told, lexical_told, types_told}
-use Rattle.rev_top.proofs.Replaying.{one_replay, program_verified, some_replay}
+use Rattle.mode_reports.proofs.Replaying.{one_replay, program_verified, some_replay}
 use Rattle.static_rules.proofs.Fronts.{none_broken}
-use Rattle.rev_top.proofs.Stages.{One, one_after, one_then}
+use Rattle.mode_reports.proofs.Stages.{One, one_after, one_then}
 use Rattle.rev_top.proofs.TraceTexts.{one_trace, some_trace}
 
 -- ---- there is one at most

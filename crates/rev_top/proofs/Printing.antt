@@ -24,7 +24,7 @@ use Rattle.revision_calculus.proofs.Outcomes.{one_outcome}
 use Rattle.world_streams.specs.Streamed as run
 use Rattle.world_streams.specs.declared.fault.StreamFault.{StreamFault}
 use Rattle.world_streams.specs.declared.fault.StreamFault.TheVariants as stream
-use Rattle.rev_top.specs.Answer.{code_run, setting}
+use Rattle.mode_reports.specs.Answer.{code_run, setting}
 use Rattle.rev_top.specs.Streaming.{Streamed, StreamsOutcome}
 
 -- the report without the values has the text of the outcome

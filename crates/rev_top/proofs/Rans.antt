@@ -19,18 +19,18 @@ use Rattle.thread_runs.specs.declared.ran.Ran.{Ran}
 use Rattle.code_generation.specs.Generated.{code_of}
 use Rattle.revision_calculus.specs.Complete.{HasOutcome}
 use Rattle.thread_runs.specs.Runs.{IsRunOf, numbers_of}
-use Rattle.rev_top.specs.Answer.{Answer, Answers, Fits, Given, Orders, RunsTo, SaysAs, code_run, reads, reads_of, setting}
+use Rattle.mode_reports.specs.Answer.{Answer, Answers, Fits, Given, Orders, RunsTo, SaysAs, code_run, reads, reads_of, setting}
 use Rattle.rev_top.specs.Delivery.{Delivered, Wrote, all_written, err_failed, no_room_at_err, no_room_at_out, out_failed}
 use Rattle.rev_top.specs.Promises.{IsRefused}
 use Rattle.rev_top.specs.Making.{IsMade, RunsBy, RunsText, Told, said, told}
 use Rattle.rev_top.specs.RanLaws.{IsDelivered, IsRunStatus, IsReported, IsRunOfCall, RanLaw, Tells}
 use Rattle.rev_top.specs.Rans.{Happened, Holds, Leaves, Reports, answered, goes_by_threads, no_report, of_load, of_order, of_run}
-use Rattle.rev_top.specs.Stages.{Onward, Then}
-use Rattle.rev_top.specs.Stops.{Meets}
-use Rattle.rev_top.specs.Texts.{Checks}
+use Rattle.mode_reports.specs.Stages.{Onward, Then}
+use Rattle.mode_reports.specs.Stops.{Meets}
+use Rattle.mode_reports.specs.Texts.{Checks}
 use Rattle.rev_top.specs.declared.made.Made.{Made}
-use Rattle.rev_top.specs.declared.stop.Stop.{Stop}
-use Rattle.rev_top.specs.declared.stop.Stop.TheVariants as stops
+use Rattle.mode_reports.specs.declared.stop.Stop.{Stop}
+use Rattle.mode_reports.specs.declared.stop.Stop.TheVariants as stops
 
 -- ---- from a run to its report
 

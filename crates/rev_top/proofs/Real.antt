@@ -5,14 +5,14 @@ use Rattle.rev_syntax.specs.Tokens.{IsFirstFault}
 use Rattle.rev_syntax.specs.Trees.{ProgramTree}
 use Rattle.rev_syntax.specs.declared.scan.LexFault.{LexFault}
 use Rattle.rev_syntax.specs.declared.scan.LexFault.TheVariants as lex
-use Rattle.merge_decl.specs.declared.expand.MergeFault.{MergeFault}
-use Rattle.merge_decl.specs.declared.expand.MergeFault.TheVariants as fun
-use Rattle.rev_kinds.specs.declared.fault.TypeFault.{TypeFault}
-use Rattle.rev_kinds.specs.declared.fault.TypeFault.TheVariants as type
+use Rattle.typed_programs.specs.declared.fun_fault.MergeFault.{MergeFault}
+use Rattle.typed_programs.specs.declared.fun_fault.MergeFault.TheVariants as fun
+use Rattle.typed_programs.specs.declared.fault.TypeFault.{TypeFault}
+use Rattle.typed_programs.specs.declared.fault.TypeFault.TheVariants as type
 use Rattle.static_rules.specs.Funs.{BreaksFun, unknown_fun, later_fun, other_arity}
 use Rattle.static_rules.specs.Breaks.{Breaks, unknown_variable, unknown_procedure, unknown_merge, declared_again, parameter_again, parameter_of_shared, let_again, other_kind, is_handle, other_right_side, other_constant, other_use, no_result, cumulative_kind, fun_parameter, fun_result, input_inside, inputs_inside, return_without, return_with, other_count, no_cells, no_return, locations, procedures, declared_funs, parameters, local_parameter, local_let, too_many_items, too_heavy}
 use Rattle.rev_messages.specs.declared.refusal.Refusal.{Refusal}
-use Rattle.rev_top.specs.Texts.{report_of_funs, report_of_lexical, report_of_types}
+use Rattle.mode_reports.specs.Texts.{report_of_funs, report_of_lexical, report_of_types}
 
 pub lexical_told : (text : List ℕ) (f : LexFault) → IsFirstFault text f
     → (r : Refusal) × (report_of_lexical text f ≡ Some r)

@@ -2,7 +2,7 @@
 use Rattle.std.proofs.Common.{ℕ, [], refl, arith}
 use Rattle.std.specs.Prelude.{Option, Some, None}
 use Rattle.rev_io.specs.Stream.{Stream}
-use Rattle.rev_top.specs.Answer.{Takes}
+use Rattle.mode_reports.specs.Answer.{Takes}
 
 -- what leaves its source as it was took nothing
 pub takes_nothing : (r : Option ℕ) (s : Stream) → Takes r s s

@@ -15,15 +15,15 @@ use Rattle.rev_messages.specs.declared.refusal.Refusal.TheVariants as refusals
 use Rattle.rev_syntax.specs.Trees.{ProgramTree}
 use Rattle.affine_check.specs.Affine.{IsAffine}
 use Rattle.revision_calculus.specs.Complete.{HasOutcome}
-use Rattle.rev_top.specs.Affine.{KeepsAffine, ReadsAffine}
-use Rattle.rev_top.specs.Answer.{Answer, Answers, Given, SaysAs, Streams, reads_of, setting, source_limit}
+use Rattle.mode_reports.specs.Affine.{KeepsAffine, ReadsAffine}
+use Rattle.mode_reports.specs.Answer.{Answer, Answers, Given, SaysAs, Streams, reads_of, setting, source_limit}
 use Rattle.rev_top.specs.Rans.{Happened, Leaves, answered, goes_by_threads, no_report}
-use Rattle.rev_top.specs.Stages.{Onward, Then}
-use Rattle.rev_top.specs.Stops.{Meets, stop_of_words}
+use Rattle.mode_reports.specs.Stages.{Onward, Then}
+use Rattle.mode_reports.specs.Stops.{Meets, stop_of_words}
 use Rattle.rev_top.specs.Streaming.{DeliversOutcome, DeliversRefusal}
-use Rattle.rev_top.specs.Texts.{Checks}
-use Rattle.rev_top.specs.declared.stop.Stop.{Stop}
-use Rattle.rev_top.specs.declared.stop.Stop.TheVariants as stops
+use Rattle.mode_reports.specs.Texts.{Checks}
+use Rattle.mode_reports.specs.declared.stop.Stop.{Stop}
+use Rattle.mode_reports.specs.declared.stop.Stop.TheVariants as stops
 
 -- ---- from what was read to the answer
 

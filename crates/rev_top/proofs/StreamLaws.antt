@@ -16,14 +16,14 @@ use Rattle.affine_check.specs.Affine.{IsAffine}
 use Rattle.revision_calculus.specs.Complete.{HasOutcome}
 use Rattle.revision_calculus.proofs.Outcomes.{one_outcome}
 use Rattle.code_machine_laws.specs.Texts.{said}
-use Rattle.rev_top.specs.Affine.{KeepsAffine}
-use Rattle.rev_top.specs.Answer.{Answer, Given, RunsTo, SaysAs, Streams, reads_of, setting, source_limit}
+use Rattle.mode_reports.specs.Affine.{KeepsAffine}
+use Rattle.mode_reports.specs.Answer.{Answer, Given, RunsTo, SaysAs, Streams, reads_of, setting, source_limit}
 use Rattle.rev_top.specs.Delivery.{Delivered, all_written, err_failed, no_room_at_err, no_room_at_out, out_failed}
 use Rattle.rev_top.specs.Rans.{answered, no_report}
-use Rattle.rev_top.specs.Stages.{Onward, Then}
+use Rattle.mode_reports.specs.Stages.{Onward, Then}
 use Rattle.rev_top.specs.StreamLaws.{PrintsFirstParts}
-use Rattle.rev_top.specs.Texts.{Checks}
-use Rattle.rev_top.proofs.Faults.{one_check}
+use Rattle.mode_reports.specs.Texts.{Checks}
+use Rattle.mode_reports.proofs.Faults.{one_check}
 use Rattle.rev_top.proofs.Printing.{report_says, untouched}
 
 -- ---- what was delivered

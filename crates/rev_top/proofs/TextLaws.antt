@@ -38,13 +38,13 @@ use Rattle.program_texts.proofs.LoadPrograms.{load_programs}
 use Rattle.program_texts.proofs.Programs.{texts_written}
 use Rattle.program_texts.proofs.Traces.{traces_have_form}
 use Rattle.rev_top.specs.Accepted.{IsSound}
-use Rattle.rev_top.specs.Answer.{Answer, AuditsTrace, Fits, RunsTo, SaysAs, reads_of, setting}
+use Rattle.mode_reports.specs.Answer.{Answer, AuditsTrace, Fits, RunsTo, SaysAs, reads_of, setting}
 use Rattle.rev_top.specs.RanLaws.{IsRunStatus}
-use Rattle.rev_top.specs.Stages.{Onward, Then}
+use Rattle.mode_reports.specs.Stages.{Onward, Then}
 use Rattle.rev_top.specs.TextLaws.{AuditsOwnTrace, LoadEndsAsRuns, LoadIsAccepted, NoProgramBeginsATrace, TraceHasForm}
-use Rattle.rev_top.specs.Texts.{Checks, ChecksTokens, ChecksTree, Cuts, reading as read_of}
+use Rattle.mode_reports.specs.Texts.{Checks, ChecksTokens, ChecksTree, Cuts, reading as read_of}
 use Rattle.rev_top.proofs.Writing.{sound_checks}
-use Rattle.rev_top.proofs.Faults.{one_check}
+use Rattle.mode_reports.proofs.Faults.{one_check}
 use Rattle.rev_top.proofs.OneAnswers.{accepted_of}
 
 -- ---- the text of `load`

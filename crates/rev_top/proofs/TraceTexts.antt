@@ -21,7 +21,7 @@ use Rattle.audit_rules.specs.Traces.{InPostOrder, IsTrace, SameTrace}
 use Rattle.audit_rules.specs.Traced.{HasTrace, IsTraceAt}
 use Rattle.audit_rules.proofs.FinalTraces.{end_has_trace}
 use Rattle.audit_rules.proofs.TracesAsParts.{trace_has_yes, yes_tells}
-use Rattle.rev_top.specs.Traces.{text_of}
+use Rattle.mode_reports.specs.Traces.{text_of}
 
 -- ---- there is one
 

@@ -24,22 +24,22 @@ use Rattle.rev_code.specs.declared.code.Code.{Code}
 use Rattle.code_generation.specs.Generated.{code_of}
 use Rattle.revision_machine.specs.Numbered.{World}
 use Rattle.code_machine.specs.Local.{Local}
-use Rattle.rev_top.specs.Affine.{KeepsAffine}
-use Rattle.rev_top.specs.Codes.{ChecksCode}
-use Rattle.rev_top.specs.Stages.{Onward, Then}
-use Rattle.rev_top.specs.Texts.{Checks}
-use Rattle.rev_top.specs.Traces.{Judges, Parts, ReadsTrace, Splits, answer_of, text_of}
-use Rattle.rev_top.specs.Answer.{Accepts, Answer, AuditsParts, AuditsTrace, Emits, Fits, IsWithin, Lists, Orders, Repeats, Replays, RunsCode, RunsTo, Says, SaysAs, Streams, Traces, code_run, reads_of, setting}
-use Rattle.rev_top.specs.Schedules.{ReplaysCode}
+use Rattle.mode_reports.specs.Affine.{KeepsAffine}
+use Rattle.mode_reports.specs.Codes.{ChecksCode}
+use Rattle.mode_reports.specs.Stages.{Onward, Then}
+use Rattle.mode_reports.specs.Texts.{Checks}
+use Rattle.mode_reports.specs.Traces.{Judges, Parts, ReadsTrace, Splits, answer_of, text_of}
+use Rattle.mode_reports.specs.Answer.{Accepts, Answer, AuditsParts, AuditsTrace, Emits, Fits, IsWithin, Lists, Orders, Repeats, Replays, RunsCode, RunsTo, Says, SaysAs, Streams, Traces, code_run, reads_of, setting}
+use Rattle.mode_reports.specs.Schedules.{ReplaysCode}
 use Rattle.rev_top.specs.Statuses.{Ends, EndsAs, HasCauses, IsAtFault, IsAuditFault, IsFault, IsReplayFault, IsStreamFault, IsTrap, Ran, StatusLaw, differs, in_length, in_program, in_schedule, in_handles, in_text, in_text_of, in_trace}
 use Rattle.rev_top.proofs.Answering.{end_status, ordered_status, report_status, reused_status, split_refused, summary_status, trace_refused, traced_status}
 use Rattle.rev_top.proofs.TraceTexts.{some_trace}
-use Rattle.rev_top.proofs.Codes.{code_refused}
-use Rattle.rev_top.proofs.Faults.{one_check, text_refused}
+use Rattle.mode_reports.proofs.Codes.{code_refused}
+use Rattle.mode_reports.proofs.Faults.{one_check, text_refused}
 use Rattle.rev_top.proofs.Handles.{affine_refused}
 use Rattle.rev_top.proofs.OneAnswers.{accepted_of, all_alike, one_fits, within}
 use Rattle.program_meaning.proofs.Outcomes.{of_code}
-use Rattle.rev_top.proofs.Replaying.{replay_refused}
+use Rattle.mode_reports.proofs.Replaying.{replay_refused}
 
 -- why a mode says what it says: what it was given is at fault, or what it ran has ended, or there was
 -- nothing to run

@@ -19,19 +19,19 @@ use Rattle.rev_syntax.specs.declared.scan.LexFault.{LexFault}
 use Rattle.rev_syntax.specs.declared.scan.LexFault.TheVariants as lex
 use Rattle.rev_syntax.specs.declared.token.Token.{Token}
 use Rattle.rev_parse.specs.Verdicts.{IsProgram, IsVerdict, Verdict, tree, unexpected, too_deep}
-use Rattle.merge_decl.specs.FunRules as fun_rules
-use Rattle.merge_decl.specs.Least.{Row}
-use Rattle.merge_decl.specs.declared.expand.MergeFault.{MergeFault}
-use Rattle.merge_decl.specs.declared.expand.MergeFault.TheVariants as fun
-use Rattle.rev_kinds.specs.Faults as type_rules
-use Rattle.rev_kinds.specs.declared.fault.TypeFault.{TypeFault}
-use Rattle.rev_kinds.specs.declared.fault.TypeFault.TheVariants as type
+use Rattle.typed_programs.specs.FunRules as fun_rules
+use Rattle.typed_programs.specs.Least.{Row}
+use Rattle.typed_programs.specs.declared.fun_fault.MergeFault.{MergeFault}
+use Rattle.typed_programs.specs.declared.fun_fault.MergeFault.TheVariants as fun
+use Rattle.typed_programs.specs.Faults as type_rules
+use Rattle.typed_programs.specs.declared.fault.TypeFault.{TypeFault}
+use Rattle.typed_programs.specs.declared.fault.TypeFault.TheVariants as type
 use Rattle.revision_calculus.specs.Complete.{HasOutcome}
 use Rattle.static_rules.specs.Funs.{KeepsFunRules}
 use Rattle.static_rules.specs.Breaks.{BreaksNone}
-use Rattle.rev_top.specs.Answer.{Accepts, Answer, Emits, Fits, Orders, Repeats, Replays, RunsTo, Says, SaysAs, Streams, Traces, reads_of, setting}
-use Rattle.rev_top.specs.Stages.{Onward, Then}
-use Rattle.rev_top.specs.Texts.{Checks, ChecksTokens, ChecksTree, Cuts, KeepsFuns, KeepsTypes, fault_at, place_in, reading, report_of_funs, report_of_lexical, report_of_types, unexpected_at}
+use Rattle.mode_reports.specs.Answer.{Accepts, Answer, Emits, Fits, Orders, Repeats, Replays, RunsTo, Says, SaysAs, Streams, Traces, reads_of, setting}
+use Rattle.mode_reports.specs.Stages.{Onward, Then}
+use Rattle.mode_reports.specs.Texts.{Checks, ChecksTokens, ChecksTree, Cuts, KeepsFuns, KeepsTypes, fault_at, place_in, reading, report_of_funs, report_of_lexical, report_of_types, unexpected_at}
 use Rattle.rev_top.specs.Writes.{IsSound, OfRead, OfText, Refuses, Shown, Writes, WritesAs, WritingLaw, at_fault, bad_byte, bad_number, broken_fun_rule, broken_rule, many_levels, no_program, open_text, unexpected_name}
 use Rattle.rev_top.proofs.Real.{funs_told, types_told}
 

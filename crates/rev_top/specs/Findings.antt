@@ -9,15 +9,15 @@ use Rattle.rev_syntax.specs.Tokens.{IsTokens, IsFirstFault}
 use Rattle.rev_syntax.specs.declared.token.Token.{Token}
 use Rattle.rev_syntax.specs.declared.scan.LexFault.{LexFault}
 use Rattle.rev_parse.specs.Verdicts.{Verdict, tree, unexpected, too_deep, IsVerdict}
-use Rattle.merge_decl.specs.FunRules as funs
-use Rattle.merge_decl.specs.declared.expand.MergeFault.{MergeFault}
-use Rattle.rev_kinds.specs.declared.fault.TypeFault.{TypeFault}
-use Rattle.rev_types.specs.Accepted.{IsWellTyped}
-use Rattle.rev_types.specs.Program.{faults}
+use Rattle.typed_programs.specs.FunRules as funs
+use Rattle.typed_programs.specs.declared.fun_fault.MergeFault.{MergeFault}
+use Rattle.typed_programs.specs.declared.fault.TypeFault.{TypeFault}
+use Rattle.typed_programs.specs.Accepted.{IsWellTyped}
+use Rattle.typed_programs.specs.Program.{faults}
 use Rattle.static_rules.specs.Funs.{IsFirstBrokenFun, KeepsFunRules}
 use Rattle.static_rules.specs.Breaks.{IsFirstBroken}
-use Rattle.rev_top.specs.Answer.{source_limit}
-use Rattle.rev_top.specs.Texts.{Checks}
+use Rattle.mode_reports.specs.Answer.{source_limit}
+use Rattle.mode_reports.specs.Texts.{Checks}
 
 -- a text is at fault in its tokens, in its syntax, in its funs or in another static rule, or it is accepted
 pub data Finding : Type 0 where

@@ -9,12 +9,12 @@ use Rattle.rev_words.specs.declared.Mode.{Mode}
 use Rattle.rev_words.specs.declared.Mode.TheVariants as modes
 use Rattle.rev_words.specs.declared.Words.{Words}
 use Rattle.rev_syntax.specs.Trees.{Expression, ProgramTree}
-use Rattle.rev_types.specs.Layout.{variables}
+use Rattle.typed_programs.specs.Layout.{variables}
 use Rattle.revision_calculus.specs.Join.{merges_of}
 use Rattle.kernel_choices.specs.Choices.{AreChoices}
 use Rattle.thread_runs.specs.declared.ran.Ran.{Ran}
-use Rattle.rev_top.specs.Answer.{Given, reads_of}
-use Rattle.rev_top.specs.Texts.{Checks}
+use Rattle.mode_reports.specs.Answer.{Given, reads_of}
+use Rattle.mode_reports.specs.Texts.{Checks}
 
 -- for each location of the program the run was given the least place of a kernel with the definition of its merge
 abbrev pub HasChosen : ProgramTree → List Expression → Option Ran → Type 0

@@ -1,8 +1,5 @@
 -- Definitions of rev_top: the top call with its promises.
 pub mod Accepted
-pub mod Affine
-pub mod Answer
-pub mod Codes
 pub mod Delivery
 pub mod Findings
 pub mod Kernels
@@ -10,13 +7,8 @@ pub mod Making
 pub mod Promises
 pub mod RanLaws
 pub mod Rans
-pub mod Schedules
-pub mod Stages
 pub mod Statuses
-pub mod Stops
 pub mod StreamLaws
 pub mod Streaming
 pub mod TextLaws
-pub mod Texts
-pub mod Traces
 pub mod Writes

@@ -13,12 +13,12 @@ use Rattle.code_generation.specs.Generated.{code_of}
 use Rattle.revision_calculus.specs.Complete.{HasOutcome}
 use Rattle.thread_runs.specs.declared.ran.Ran.{Ran}
 use Rattle.thread_runs.specs.Runs.{IsRunOf}
-use Rattle.rev_top.specs.Answer.{Answer, Answers, code_run, setting}
+use Rattle.mode_reports.specs.Answer.{Answer, Answers, code_run, setting}
 use Rattle.rev_top.specs.Rans.{Leaves}
-use Rattle.rev_top.specs.Stages.{Then}
-use Rattle.rev_top.specs.Texts.{Checks}
+use Rattle.mode_reports.specs.Stages.{Then}
+use Rattle.mode_reports.specs.Texts.{Checks}
 use Rattle.rev_top.specs.declared.made.Made.{Made}
-use Rattle.rev_top.specs.declared.stop.Stop.{Stop}
+use Rattle.mode_reports.specs.declared.stop.Stop.{Stop}
 
 -- a report, and the run of which it was made
 pub record Told : Type 0 where

@@ -6,7 +6,7 @@ use Rattle.rev_words.specs.declared.Words.{Words}
 use Rattle.rev_report.specs.Report.{Output}
 use Rattle.rev_messages.specs.Refusals.{no_memory, shown}
 use Rattle.rev_report.specs.Status.{no_memory_status, read_fault_status, refused_status, usage_status, write_fault_status}
-use Rattle.rev_top.specs.Answer.{Answer, Says, reads}
+use Rattle.mode_reports.specs.Answer.{Answer, Says, reads}
 use Rattle.thread_runs.specs.declared.ran.Ran.{Ran}
 use Rattle.rev_top.specs.Delivery.{Wrote}
 use Rattle.rev_top.specs.Rans.{Happened}

@@ -7,7 +7,7 @@ use Rattle.rev_words.specs.declared.Words.{Words}
 use Rattle.rev_report.specs.Report.{Output}
 use Rattle.rev_report.specs.Status.{done_status, trapped_status, twice_status}
 use Rattle.thread_runs.specs.declared.ran.Ran.{Ran}
-use Rattle.rev_top.specs.Answer.{Fits, reads, reads_of}
+use Rattle.mode_reports.specs.Answer.{Fits, reads, reads_of}
 use Rattle.rev_top.specs.Delivery.{Delivered, Wrote}
 use Rattle.rev_top.specs.Promises.{IsRefused}
 use Rattle.rev_top.specs.Rans.{Happened, Reports, goes_by_threads}

@@ -17,9 +17,9 @@ use Rattle.rev_syntax.specs.Trees.{ProgramTree}
 use Rattle.code_generation.specs.Generated.{code_of}
 use Rattle.thread_runs.specs.declared.ran.Ran.{Ran}
 use Rattle.thread_runs.specs.Runs.{IsRunOf, numbers_of}
-use Rattle.rev_top.specs.Answer.{Answer, Answers, Given, code_run, reads_of}
+use Rattle.mode_reports.specs.Answer.{Answer, Answers, Given, code_run, reads_of}
 use Rattle.rev_top.specs.Delivery.{Delivered, NoReport}
-use Rattle.rev_top.specs.Texts.{Checks}
+use Rattle.mode_reports.specs.Texts.{Checks}
 
 -- ---- the modes that make a run
 

@@ -25,13 +25,13 @@ use Rattle.rev_messages.specs.declared.refusal.Refusal.{Refusal}
 use Rattle.rev_syntax.specs.Trees.{ProgramTree}
 use Rattle.revision_calculus.specs.Complete.{HasOutcome}
 use Rattle.trace_diagram.specs.declared.diagram.Trace.{Trace}
-use Rattle.rev_top.specs.Codes.{ChecksCode}
-use Rattle.rev_top.specs.Schedules.{ReplaysCode}
-use Rattle.rev_top.specs.Texts.{Checks}
-use Rattle.rev_top.specs.Traces.{Judges, Parts, ReadsTrace, Splits}
+use Rattle.mode_reports.specs.Codes.{ChecksCode}
+use Rattle.mode_reports.specs.Schedules.{ReplaysCode}
+use Rattle.mode_reports.specs.Texts.{Checks}
+use Rattle.mode_reports.specs.Traces.{Judges, Parts, ReadsTrace, Splits}
 use Rattle.affine_check.specs.Affine.{IsAffine}
-use Rattle.rev_top.specs.Affine.{KeepsAffine}
-use Rattle.rev_top.specs.Answer.{Answer, Fits, Says, code_run, file_limit, reads_of, setting}
+use Rattle.mode_reports.specs.Affine.{KeepsAffine}
+use Rattle.mode_reports.specs.Answer.{Answer, Fits, Says, code_run, file_limit, reads_of, setting}
 
 -- ---- one answer
 

@@ -9,9 +9,9 @@ use Rattle.affine_check.specs.Affine.{IsAffine}
 use Rattle.revision_calculus.specs.Complete.{HasOutcome}
 use Rattle.code_machine_laws.specs.Texts.{said}
 use Rattle.thread_runs.specs.declared.ran.Ran.{Ran}
-use Rattle.rev_top.specs.Answer.{setting}
+use Rattle.mode_reports.specs.Answer.{setting}
 use Rattle.rev_top.specs.Rans.{Happened}
-use Rattle.rev_top.specs.Texts.{Checks}
+use Rattle.mode_reports.specs.Texts.{Checks}
 
 -- of a program that keeps the affine rule: whatever happened in the call and whatever its status is,
 -- `out` took a first part of what `main` has printed at the end of every complete run

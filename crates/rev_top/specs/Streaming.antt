@@ -12,10 +12,10 @@ use Rattle.rev_syntax.specs.Trees.{ProgramTree}
 use Rattle.revision_calculus.specs.Complete.{HasOutcome}
 use Rattle.world_streams.specs.declared.fault.StreamFault.{StreamFault}
 use Rattle.world_streams.specs.declared.fault.StreamFault.TheVariants as stream
-use Rattle.rev_top.specs.Answer.{setting}
+use Rattle.mode_reports.specs.Answer.{setting}
 use Rattle.rev_top.specs.Delivery.{Delivered, NoReport}
-use Rattle.rev_top.specs.declared.stop.Stop.{Stop}
-use Rattle.rev_top.specs.declared.stop.Stop.TheVariants as stops
+use Rattle.mode_reports.specs.declared.stop.Stop.{Stop}
+use Rattle.mode_reports.specs.declared.stop.Stop.TheVariants as stops
 
 -- at the end `out` took all of the text of the outcome; else a first part of it, and its count rose
 -- exactly where it failed

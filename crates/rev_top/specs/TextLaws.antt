@@ -13,9 +13,9 @@ use Rattle.trace_diagram.specs.Traces.{IsTrace, IsWholeLines, trace_text}
 use Rattle.trace_diagram.specs.declared.diagram.Trace.{Trace}
 use Rattle.trace_diagram.specs.Dividing.{IsCutAt}
 use Rattle.audit_rules.specs.Traced.{HasTrace}
-use Rattle.rev_top.specs.Answer.{Answer, Says, file_limit, setting, source_limit}
+use Rattle.mode_reports.specs.Answer.{Answer, Says, file_limit, setting, source_limit}
 use Rattle.rev_top.specs.RanLaws.{IsRunStatus}
-use Rattle.rev_top.specs.Texts.{Checks}
+use Rattle.mode_reports.specs.Texts.{Checks}
 
 -- the text that `load` makes is accepted, whatever the seed and the size
 abbrev pub LoadIsAccepted : Type 0

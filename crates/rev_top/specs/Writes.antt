@@ -21,15 +21,15 @@ use Rattle.rev_syntax.specs.Tokens.{IsBadByte, IsBadNumber, IsOpenText, IsTokens
 use Rattle.rev_syntax.specs.Trees.{ProgramTree}
 use Rattle.rev_syntax.specs.declared.token.Token.{Token}
 use Rattle.rev_parse.specs.Verdicts.{IsProgram, IsTooDeep, IsUnexpected, place_of}
-use Rattle.merge_decl.specs.FunRules as fun_rules
-use Rattle.merge_decl.specs.Least.{IsFirstOf}
-use Rattle.merge_decl.specs.declared.expand.MergeFault.{MergeFault}
-use Rattle.rev_kinds.specs.Faults as type_rules
-use Rattle.rev_kinds.specs.declared.fault.TypeFault.{TypeFault}
+use Rattle.typed_programs.specs.FunRules as fun_rules
+use Rattle.typed_programs.specs.Least.{IsFirstOf}
+use Rattle.typed_programs.specs.declared.fun_fault.MergeFault.{MergeFault}
+use Rattle.typed_programs.specs.Faults as type_rules
+use Rattle.typed_programs.specs.declared.fault.TypeFault.{TypeFault}
 use Rattle.revision_calculus.specs.Complete.{HasOutcome}
 use Rattle.static_rules.specs.Funs.{BreaksFun, KeepsFunRules}
 use Rattle.static_rules.specs.Breaks.{Breaks, BreaksNone}
-use Rattle.rev_top.specs.Answer.{Accepts, Answer, Emits, Orders, Repeats, Replays, RunsTo, Says, SaysAs, Streams, Traces, reads_of, setting}
+use Rattle.mode_reports.specs.Answer.{Accepts, Answer, Emits, Orders, Repeats, Replays, RunsTo, Says, SaysAs, Streams, Traces, reads_of, setting}
 
 -- ---- texts
 

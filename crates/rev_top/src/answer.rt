@@ -1,77 +1,30 @@
 //! The report that belongs to the words and to what the source gives.
 ghost use Rattle.std.specs.Prelude.{◌<◌, ◌≤◌, ◌^◌, ◌≡◌, ◌≢◌, IfOk, IfSome, Some, length, map};
 ghost use Rattle.rev_num.specs.Limits.{most_fuel};
-ghost use Rattle.rev_syntax.specs.View.{program as whole};
 ghost use Rattle.rev_words.specs.declared.Mode.TheVariants as modes;
-ghost use Rattle.rev_words.specs.declared.Words.{Words};
 ghost use Rattle.rev_report.specs.Report.{output};
 ghost use Rattle.merge_kernels.specs.Terms.{definition};
-ghost use Rattle.rev_top.specs.Answer.{Accepts, Answers, Given, IsWithin, Lists};
-ghost use Rattle.rev_top.specs.Answer.{SaysAs, Takes, reads_of, source_limit};
+ghost use Rattle.mode_reports.specs.Answer.{Answers, Given, IsWithin};
+ghost use Rattle.mode_reports.specs.Answer.{SaysAs, Takes, reads_of};
 ghost use Rattle.rev_top.specs.Kernels.{HasChosenIn, KernelsOf, text_of};
 ghost use Rattle.rev_top.specs.Making.{IsMade, said, without_run};
 ghost use Rattle.rev_top.specs.Rans.{Holds, Leaves};
-ghost use Rattle.rev_top.specs.Stops.{Meets};
+ghost use Rattle.mode_reports.specs.Stops.{Meets};
 
-use crate::audits::audit;
-use crate::code::checked_code;
-use crate::emits::emit;
 use crate::endings::refused;
-use crate::execs::exec;
 use crate::made::Made;
-use crate::repeats::repeat;
-use crate::replays::replay;
 use crate::runs::{load, order, run};
-use crate::stop::Stop;
-use crate::text::checked;
-use crate::traces::trace;
-use code_listing::disassemble;
-use code_verifier::Verified;
 use hub_workers::Gate;
 use merge_kernels::Kernel;
+use mode_reports::{
+    FILE_LIMIT, SOURCE_LIMIT, Stop, audit, check, dis, emit, exec, repeat, replay, trace,
+};
 use rev_io::{Source, read_text};
-use rev_messages::{accepted_report, done_report};
 use rev_report::Report;
-use rev_types::Typed;
 use rev_words::{Mode, Words};
 use std::alloc::{AllocError, Global};
 use std::sync::Wait;
 use std::thread::Threads;
-
-/// The most bytes that the text of a program may have.
-pub(crate) const SOURCE_LIMIT: usize = 1_048_576;
-
-/// The most bytes that a code file may have, and a text with a trace behind it.
-const FILE_LIMIT: usize = 16_777_216;
-
-/// The report of a program that keeps all rules.
-fn accept(alloc: Global, typed: &Typed) -> Result<Report, Stop>
-    ensures { Meets output result (Accepts (whole typed.now.expanded.program)) }
-{
-    Ok(accepted_report(alloc)?)
-}
-
-fn check(alloc: Global, words: &Words, text: &[u8]) -> Result<Report, Stop>
-    requires { length text.now ≤ source_limit }
-    ensures { Meets output result (SaysAs Mode.Check words.now text.now) }
-{
-    let typed = checked(alloc, text)?;
-    accept(alloc, &typed)
-}
-
-/// The listing of code.
-fn list(alloc: Global, code: &Verified) -> Result<Report, Stop>
-    ensures { Meets output result (Lists code.now.code) }
-{
-    Ok(done_report(alloc, disassemble(alloc, code.code())?))
-}
-
-fn dis(alloc: Global, bytes: &[u8]) -> Result<Report, Stop>
-    ensures { (w : Words) → Meets output result (SaysAs Mode.Dis w bytes.now) }
-{
-    let code = checked_code(alloc, bytes)?;
-    list(alloc, &code)
-}
 
 /// A report without a run.
 fn alone(report: Result<Report, Stop>) -> Result<Made, Stop>

@@ -6,16 +6,16 @@ ghost use Rattle.std.specs.String.{string_bytes};
 ghost use Rattle.rev_num.specs.Limits.{most_fuel};
 ghost use Rattle.rev_words.specs.Reading.{reading};
 ghost use Rattle.merge_kernels.specs.Terms.{definition};
-ghost use Rattle.rev_top.specs.Answer.{Takes, reads, reads_of};
+ghost use Rattle.mode_reports.specs.Answer.{Takes, reads, reads_of};
 ghost use Rattle.rev_top.specs.Kernels.{KernelsOf};
 ghost use Rattle.rev_top.specs.Rans.{Happened};
 
 use crate::answer::make_report;
 use crate::endings::{deliver, out_of_memory, refuse};
-use crate::stop::Stop;
 use crate::streams::stream;
 use hub_workers::Gate;
 use merge_kernels::Kernel;
+use mode_reports::Stop;
 use rev_io::{Sink, Source};
 use rev_words::{Mode, Words, read_words};
 use std::alloc::Global;

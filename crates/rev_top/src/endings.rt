@@ -10,9 +10,9 @@ ghost use Rattle.rev_report.specs.Report.{Output, output};
 ghost use Rattle.rev_report.specs.Status.{no_memory_status};
 ghost use Rattle.rev_top.specs.Delivery.{Delivered};
 ghost use Rattle.rev_top.specs.Streaming.{DeliversRefusal, Streamed};
-ghost use Rattle.rev_top.specs.declared.stop.Stop.TheVariants as stops;
+ghost use Rattle.mode_reports.specs.declared.stop.Stop.TheVariants as stops;
 
-use crate::stop::Stop;
+use mode_reports::Stop;
 use rev_io::{Sink, SinkFault, write_all};
 use rev_messages::{no_memory_message, refusal_bytes};
 use rev_num::Outcome;

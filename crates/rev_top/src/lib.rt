@@ -11,21 +11,12 @@ ghost use Rattle.rev_top.specs.Promises.{Keeps};
 ghost use Rattle.rev_top.specs.RanLaws.{RanSays};
 
 mod answer;
-mod audits;
-mod code;
 mod deliver;
-mod emits;
 mod endings;
-mod execs;
 mod law;
 mod made;
-mod repeats;
-mod replays;
 mod runs;
-mod stop;
 mod streams;
-mod text;
-mod traces;
 
 use deliver::happen;
 pub use endings::out_of_memory;

@@ -7,28 +7,27 @@ ghost use Rattle.code_generation.specs.Generated.{code_of};
 ghost use Rattle.revision_calculus.specs.Complete.{HasOutcome};
 ghost use Rattle.merge_kernels.specs.Terms.{definition};
 ghost use Rattle.thread_runs.specs.Runs.{IsRunOf};
-ghost use Rattle.rev_top.specs.Answer.{code_run, setting, source_limit};
+ghost use Rattle.mode_reports.specs.Answer.{code_run, setting, source_limit};
 ghost use Rattle.rev_top.specs.Kernels.{HasChosen, HasChosenIn};
 ghost use Rattle.rev_top.specs.Making.{RunsBy, RunsText, told};
 ghost use Rattle.rev_top.specs.Rans.{of_load, of_order, of_run};
-ghost use Rattle.rev_top.specs.Stops.{Meets};
-ghost use Rattle.rev_top.specs.Texts.{Checks};
+ghost use Rattle.mode_reports.specs.Stops.{Meets};
+ghost use Rattle.mode_reports.specs.Texts.{Checks};
 
 use crate::made::Made;
-use crate::stop::Stop;
-use crate::text::checked;
 use codegen::generate;
 use hub_workers::Gate;
 use kernel_choices::choose_kernels;
 use merge_kernels::{Kernel, KernelPlan};
+use mode_reports::{Stop, checked};
 use rev_messages::{order_report, summary_report};
 use rev_report::outcome_bytes;
-use rev_types::Typed;
 use rev_words::{Words, load_text};
 use std::alloc::{AllocError, Global};
 use std::sync::Wait;
 use std::thread::Threads;
 use thread_runs::{Ran, run_threads};
+use typed_programs::Typed;
 
 /// A run of the program by threads, with the input numbers, the share and the fuel of the words.
 fn run_of<R: Threads + Wait + Sync, G: Gate + Sync>(

@@ -5,26 +5,25 @@ ghost use Rattle.rev_num.specs.Limits.{most_fuel};
 ghost use Rattle.rev_syntax.specs.View.{program as whole};
 ghost use Rattle.affine_check.specs.Affine.{IsAffine};
 ghost use Rattle.rev_words.specs.declared.Mode.TheVariants as modes;
-ghost use Rattle.rev_top.specs.Affine.{KeepsAffine, ReadsAffine, report_of_affine};
-ghost use Rattle.rev_top.specs.Answer.{Given, Takes, source_limit};
+ghost use Rattle.mode_reports.specs.Affine.{KeepsAffine, ReadsAffine, report_of_affine};
+ghost use Rattle.mode_reports.specs.Answer.{Given, Takes, source_limit};
 ghost use Rattle.rev_top.specs.Rans.{Happened};
-ghost use Rattle.rev_top.specs.Stages.{Then};
-ghost use Rattle.rev_top.specs.Stops.{Meets, stop_of};
+ghost use Rattle.mode_reports.specs.Stages.{Then};
+ghost use Rattle.mode_reports.specs.Stops.{Meets, stop_of};
 ghost use Rattle.rev_top.specs.Streaming.{DeliversOutcome, StreamsOutcome};
 
-use crate::answer::{SOURCE_LIMIT, whole_source};
+use crate::answer::whole_source;
 use crate::endings::{end_stream, refuse};
-use crate::stop::Stop;
-use crate::text::{checked, fault_at};
 use affine_check::{AffineFault, affine};
 use affine_code::never_laws;
 use codegen::generate;
+use mode_reports::{SOURCE_LIMIT, Stop, checked, fault_at};
 use rev_io::{Sink, Source};
 use rev_messages::TextFault;
 use rev_num::Outcome;
-use rev_types::Typed;
 use rev_words::Words;
 use std::alloc::Global;
+use typed_programs::Typed;
 use world_streams::{StreamFault, stream_code};
 
 /// How a program breaks the affine rule.

@@ -6,22 +6,22 @@ use Rattle.rev_num.specs.Value.{kind_of, same_kind}
 use Rattle.rev_syntax.specs.Trees.{PlacedName, Parameter, ArraySize, Constant, Expression, placed, ExpressionForm, Expressions, Links, int, bool, no_rev, var, cell, apply, input, inputs, pick, unary, chain, no_expressions, expression, no_links, link, RightSide, plain, called, forked, tried, PrintItem, text, shown, Statement, statement, StatementForm, bind, assign, assign_cell, choose, choose_or, repeat, call, return, fork, join, print, assert, Statements, no_statements, statements, Arms, no_arms, arm, Declaration, fun, merge, shared, proc, ProgramTree}
 use Rattle.rev_syntax.specs.declared.tree.BinaryOp.{BinaryOp}
 use Rattle.rev_syntax.specs.declared.tree.BinaryOp.TheVariants as b
-use Rattle.merge_decl.specs.FunRules.{count}
-use Rattle.merge_decl.specs.Table.{Table, find, added}
-use Rattle.merge_decl.specs.Least.{least}
-use Rattle.merge_decl.proofs.Leasts.{least-append}
-use Rattle.rev_kinds.specs.declared.fault.TypeFault.{TypeFault}
+use Rattle.typed_programs.specs.FunRules.{count}
+use Rattle.name_tables.specs.Table.{Table, find, added}
+use Rattle.typed_programs.specs.Least.{least}
+use Rattle.typed_programs.proofs.Leasts.{least-append}
+use Rattle.typed_programs.specs.declared.fault.TypeFault.{TypeFault}
 use Rattle.rev_report.specs.declared.limit.Limit.{Limit}
 use Rattle.rev_report.specs.declared.limit.Limit.TheVariants as limits
-use Rattle.rev_kinds.specs.declared.names.Holder.{Holder}
+use Rattle.typed_programs.specs.declared.names.Holder.{Holder}
 use Rattle.rev_report.specs.Limits.{first_past, most}
-use Rattle.rev_kinds.specs.Faults.{HasLimit, place, rank}
-use Rattle.rev_kinds.specs.Kinds.{Callee, Names, Locals, name_kind, operand_kind, kind_in, right_side_kind, right_side_place, expression_place}
-use Rattle.rev_kinds.specs.Rules as r
+use Rattle.typed_programs.specs.Faults.{HasLimit, place, rank}
+use Rattle.typed_programs.specs.Kinds.{Callee, Names, Locals, name_kind, operand_kind, kind_in, right_side_kind, right_side_place, expression_place}
+use Rattle.typed_programs.specs.Rules as r
 use Rattle.rev_kinds.specs.Walk.{both}
-use Rattle.rev_types.specs.Statements as s
-use Rattle.rev_types.specs.Scopes as scopes
-use Rattle.rev_types.specs.Program as p
+use Rattle.typed_programs.specs.Statements as s
+use Rattle.typed_programs.specs.Scopes as scopes
+use Rattle.typed_programs.specs.Program as p
 use Rattle.rev_types.specs.Walk.{broken_in_program}
 
 -- Two ways to gather faults, the second of which is the first seen by h. A fault of a limit has the

@@ -1,18 +1,18 @@
 -- Tables of names find the first declaration of each name.
 use Rattle.std.proofs.Common.{◌≡◌, ◌∙◌, ℕ, Bool, true, false, cond, if◌then◌else◌, Option, Some, None, option_map, is_some, List, [], ◌∷◌, ◌++◌, refl, sym, ap}
 use Rattle.rev_syntax.specs.Trees.{Declaration, fun, merge, shared, proc, ProgramTree}
-use Rattle.merge_decl.specs.Names.{Name, same}
-use Rattle.merge_decl.specs.Table.{Table, find, added}
-use Rattle.merge_decl.proofs.Tables.{or_else, or_else-step, find-added, or_else-none}
+use Rattle.name_tables.specs.Names.{Name, same}
+use Rattle.name_tables.specs.Table.{Table, find, added}
+use Rattle.name_tables.proofs.Tables.{or_else, or_else-step, find-added, or_else-none}
 use Rattle.rev_report.specs.declared.limit.Limit.TheVariants as limits
-use Rattle.rev_kinds.specs.declared.names.Holder.{Holder}
+use Rattle.typed_programs.specs.declared.names.Holder.{Holder}
 use Rattle.rev_kinds.specs.declared.names.Callee as held
 use Rattle.rev_kinds.specs.declared.names.Checker as held_checker
 use Rattle.rev_report.specs.Limits.{first_past}
-use Rattle.rev_kinds.specs.Kinds.{Callee, Locals}
+use Rattle.typed_programs.specs.Kinds.{Callee, Locals}
 use Rattle.rev_kinds.specs.Walk.{Fault, both, callee, names_of}
-use Rattle.rev_types.specs.Program as p
-use Rattle.rev_types.specs.Scopes as scopes
+use Rattle.typed_programs.specs.Program as p
+use Rattle.typed_programs.specs.Scopes as scopes
 use Rattle.rev_types.specs.Tables.{shared_table, proc_table, fun_table, callees}
 use Rattle.rev_types.specs.Walk.{broken_in_declarations, broken_in_program, broken_in_statements}
 

@@ -2,8 +2,8 @@
 use Rattle.std.proofs.Common.{◌≡◌, inl, inr, Bool, true, false, cond, Option, Some, None, List, [], ◌∷◌, refl, sym, ap, subst}
 use Rattle.std.specs.Cmp.Lexicographic.{same_text, other_text}
 use Rattle.rev_syntax.specs.Trees.{Declaration, fun, merge, shared, proc}
-use Rattle.merge_decl.specs.Names.{Name, same}
-use Rattle.rev_types.specs.Scopes.{holder, shared_named, proc_named, fun_named}
+use Rattle.name_tables.specs.Names.{Name, same}
+use Rattle.typed_programs.specs.Scopes.{holder, shared_named, proc_named, fun_named}
 use Rattle.rev_types.specs.Naming.{DeclaresShared, DeclaresProc, DeclaresFun, Means, FirstCounts}
 
 module _ {V : Type 0} (declares : Declaration → V → Type 0) where

@@ -1,12 +1,12 @@
 -- Each fault of a limit that a program breaks has the number of that limit.
 use Rattle.std.proofs.Common.{◌≡◌, inl, inr, List, [], ◌∷◌, ◌++◌, map, refl, sym, ap, subst}
 use Rattle.std.proofs.lemmas.List.{map-append}
-use Rattle.merge_decl.specs.Least.{Among}
-use Rattle.rev_kinds.specs.declared.fault.TypeFault.{TypeFault}
-use Rattle.rev_kinds.specs.declared.fault.TypeFault.TheVariants.{UnknownName, Redeclared, WrongType, WrongCount, NoReturn, LimitOf, OutOfMemory}
-use Rattle.rev_kinds.specs.Faults.{HasLimit, exceeded}
-use Rattle.rev_types.specs.Laws.{OwnLimits}
-use Rattle.rev_types.specs.Program.{faults}
+use Rattle.typed_programs.specs.Least.{Among}
+use Rattle.typed_programs.specs.declared.fault.TypeFault.{TypeFault}
+use Rattle.typed_programs.specs.declared.fault.TypeFault.TheVariants.{UnknownName, Redeclared, WrongType, WrongCount, NoReturn, LimitOf, OutOfMemory}
+use Rattle.typed_programs.specs.Faults.{HasLimit, exceeded}
+use Rattle.typed_programs.specs.Laws.{OwnLimits}
+use Rattle.typed_programs.specs.Program.{faults}
 use Rattle.rev_types.proofs.FirstOfFaults.{program_first}
 
 -- the fault with the number of its limit

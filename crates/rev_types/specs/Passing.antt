@@ -1,6 +1,6 @@
 -- What a contract sees of what declarations declare.
 use Rattle.rev_types.specs.declared.passed.Passed as held
-use Rattle.rev_types.specs.Program.{Passed}
+use Rattle.typed_programs.specs.Program.{Passed}
 
 abbrev pub passed_of : held.Passed → Passed
 passed_of p = record {

@@ -1,17 +1,17 @@
 -- The names of a program as tables.
 use Rattle.std.specs.Prelude.{◌≢◌, Some, List, [], ◌∷◌, map}
 use Rattle.rev_syntax.specs.Trees.{Declaration, fun, merge, shared, proc, ProgramTree}
-use Rattle.merge_decl.specs.Least.{IsFirst}
-use Rattle.merge_decl.specs.Table.{Table, added}
-use Rattle.rev_kinds.specs.declared.fault.TypeFault.{TypeFault}
-use Rattle.rev_kinds.specs.declared.fault.TypeFault.TheVariants.{OutOfMemory}
-use Rattle.rev_kinds.specs.declared.names.Holder.{Holder}
+use Rattle.typed_programs.specs.Least.{IsFirst}
+use Rattle.name_tables.specs.Table.{Table, added}
+use Rattle.typed_programs.specs.declared.fault.TypeFault.{TypeFault}
+use Rattle.typed_programs.specs.declared.fault.TypeFault.TheVariants.{OutOfMemory}
+use Rattle.typed_programs.specs.declared.names.Holder.{Holder}
 use Rattle.rev_kinds.specs.declared.names.Callee as held
-use Rattle.rev_kinds.specs.Faults.{place, rank}
-use Rattle.rev_kinds.specs.Kinds.{Callee}
+use Rattle.typed_programs.specs.Faults.{place, rank}
+use Rattle.typed_programs.specs.Kinds.{Callee}
 use Rattle.rev_kinds.specs.Walk.{callee}
-use Rattle.rev_types.specs.Program.{faults}
-use Rattle.rev_types.specs.Scopes.{holder}
+use Rattle.typed_programs.specs.Program.{faults}
+use Rattle.typed_programs.specs.Scopes.{holder}
 
 -- the table after a declaration, if it is a shared variable
 abbrev pub with_shared : Table Holder → Declaration → Table Holder

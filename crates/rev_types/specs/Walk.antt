@@ -2,13 +2,13 @@
 use Rattle.std.specs.Prelude.{ℕ, Bool, Option, Some, None, List}
 use Rattle.rev_num.specs.declared.value.ValueKind.{ValueKind}
 use Rattle.rev_syntax.specs.Trees.{PlacedName, Parameter, ArraySize, Constant, Expression, RightSide, PrintItem, Statement, StatementForm, Statements, Arms, Declaration, ProgramTree}
-use Rattle.merge_decl.specs.Table.{Table}
+use Rattle.name_tables.specs.Table.{Table}
 use Rattle.rev_report.specs.declared.limit.Limit.{Limit}
-use Rattle.rev_kinds.specs.declared.names.Holder.{Holder}
-use Rattle.rev_kinds.specs.Kinds.{Names, Locals}
+use Rattle.typed_programs.specs.declared.names.Holder.{Holder}
+use Rattle.typed_programs.specs.Kinds.{Names, Locals}
 use Rattle.rev_kinds.specs.Walk.{Fault, both}
-use Rattle.rev_types.specs.Statements as s
-use Rattle.rev_types.specs.Program as p
+use Rattle.typed_programs.specs.Statements as s
+use Rattle.typed_programs.specs.Program as p
 
 -- ---- statements
 

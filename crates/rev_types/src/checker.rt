@@ -4,9 +4,9 @@ ghost use Rattle.std.specs.Prelude.{◌≡◌, ◌<◌, ◌^◌, [], ◌++◌, N
 ghost use Rattle.std.specs.Prelude.{length, map, IfErr, IfOk, OnOk, option_map};
 ghost use Rattle.rev_syntax.specs.View.{declaration, program as whole, placed_name};
 ghost use Rattle.rev_kinds.specs.Walk.{names_of};
-ghost use Rattle.rev_types.specs.Accepted.{IsWellTyped, IsNotTyped};
+ghost use Rattle.typed_programs.specs.Accepted.{IsWellTyped, IsNotTyped};
 ghost use Rattle.rev_types.specs.Passing.{passed_of};
-ghost use Rattle.rev_types.specs.Program as program;
+ghost use Rattle.typed_programs.specs.Program as program;
 ghost use Rattle.rev_types.specs.Tables.{Refuses};
 ghost use Rattle.rev_types.specs.Walk as rule;
 
@@ -14,12 +14,13 @@ use crate::decls::decl;
 use crate::lookup::name_tables;
 use crate::passed::{Passed, cells_in};
 use crate::statements::{Body, block};
-use crate::tables::{SharedInfo, Tables};
-use crate::typed::{Typed, make_typed};
-use merge_decl::{Expanded, NameTable};
-use rev_kinds::{Checker, TypeFault, first};
+use crate::tables::Tables;
+use crate::typed::make_typed;
+use name_tables::NameTable;
+use rev_kinds::{Checker, first};
 use rev_syntax::{Decl, Name, Program};
 use std::alloc::{AllocError, Global};
+use typed_programs::{Expanded, SharedInfo, TypeFault, Typed};
 
 /// The number of the merge of a cumulative variable.
 fn merge_number(merges: &NameTable<u32>, by: &Option<Name>) -> Option<u32>
@@ -66,7 +67,7 @@ fn list(
 }
 
 /// The first rule that declarations break, and what they declare.
-#[tactic(auto, using(merge_decl::proofs::Appends::appends))]
+#[tactic(auto, using(typed_programs::proofs::Appends::appends))]
 fn declarations(
     alloc: Global,
     outer: &Checker,

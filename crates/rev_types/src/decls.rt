@@ -5,24 +5,25 @@ ghost use Rattle.std.specs.declared.option.Option.{Option};
 ghost use Rattle.rev_syntax.specs.View.{statement_form, arms, parameter, block};
 ghost use Rattle.rev_syntax.specs.View.{constant, declaration, array_size, stmt};
 ghost use Rattle.rev_syntax.specs.View.{stmts, expression, placed_name};
-ghost use Rattle.merge_decl.specs.Table.{find};
+ghost use Rattle.name_tables.specs.Table.{find};
 ghost use Rattle.rev_report.specs.declared.limit.Limit.TheVariants as limits;
 ghost use Rattle.rev_report.specs.Limits.{first_past};
 ghost use Rattle.rev_kinds.specs.Walk.{both, names_of};
 ghost use Rattle.rev_types.specs.Passing.{passed_of};
-ghost use Rattle.rev_types.specs.Program as program;
-ghost use Rattle.rev_types.specs.Scopes as scopes;
-ghost use Rattle.rev_types.specs.Statements as statements;
+ghost use Rattle.typed_programs.specs.Program as program;
+ghost use Rattle.typed_programs.specs.Scopes as scopes;
+ghost use Rattle.typed_programs.specs.Statements as statements;
 ghost use Rattle.rev_types.specs.Walk as rule;
 
 use crate::passed::{Passed, cells_in, located_after};
 use crate::statements::{Body, block, new_local, one_more_local};
-use merge_decl::NameTable;
-use rev_kinds::{Checker, Locals, TypeFault, first, not_rev, wants};
+use name_tables::NameTable;
+use rev_kinds::{Checker, Locals, first, not_rev, wants};
 use rev_num::{ValueKind, same_kind};
 use rev_report::Limit;
 use rev_syntax::{Arm, Block, Const, Decl, Expr, Form, Name, Param, Size, Stmt};
 use std::alloc::{AllocError, Global};
+use typed_programs::TypeFault;
 
 // ---- which blocks return
 

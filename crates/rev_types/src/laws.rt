@@ -1,7 +1,7 @@
 //! What the static rules say of programs.
 
-ghost use Rattle.rev_types.specs.Laws.{Typed, Accepts, LimitsAlone, OwnLimits};
-ghost use Rattle.rev_types.specs.Layout.{LaidOut};
+ghost use Rattle.typed_programs.specs.Laws.{Typed, Accepts, LimitsAlone, OwnLimits};
+ghost use Rattle.typed_programs.specs.Layout.{LaidOut};
 ghost use Rattle.rev_types.specs.Naming.{FirstCounts};
 
 /// A small program that breaks no rule, those on funs included, is typed and within the limits.

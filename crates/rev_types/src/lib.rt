@@ -13,5 +13,3 @@ mod typed;
 pub use checker::check;
 pub use laws::{name_laws, program_laws};
 pub use lookup::{NameTables, name_tables};
-pub use tables::SharedInfo;
-pub use typed::Typed;

@@ -4,10 +4,11 @@ ghost use Rattle.std.specs.Prelude.{◌≡◌, Some, [], map, IfOk, OnOk};
 ghost use Rattle.rev_syntax.specs.View.{declaration};
 ghost use Rattle.rev_types.specs.Tables as spec;
 
-use merge_decl::NameTable;
-use rev_kinds::{Callee, Holder};
+use name_tables::NameTable;
+use rev_kinds::Callee;
 use rev_syntax::Decl;
 use std::alloc::{AllocError, Global};
+use typed_programs::Holder;
 
 /// The first shared variable, the first procedure and the first fun of each name.
 #[derive(Drop)]

@@ -3,15 +3,15 @@
 ghost use Rattle.std.specs.Prelude.{◌≡◌, ◌+◌, ◌<◌, ◌≤◌, ◌^◌, OnOk, min, option_map};
 ghost use Rattle.rev_syntax.specs.View.{declaration, array_size, links};
 ghost use Rattle.rev_syntax.specs.View.{expression_form, expression, expressions};
-ghost use Rattle.merge_decl.specs.Table.{find};
+ghost use Rattle.name_tables.specs.Table.{find};
 ghost use Rattle.rev_types.specs.Passing.{passed_of};
-ghost use Rattle.merge_decl.specs.Weights.{known_weight};
+ghost use Rattle.typed_programs.specs.Weights.{known_weight};
 ghost use Rattle.rev_report.specs.Limits.{first_past};
 ghost use Rattle.rev_report.specs.declared.limit.Limit.TheVariants as limits;
-ghost use Rattle.rev_types.specs.Program as program;
-ghost use Rattle.rev_types.specs.Scopes as scopes;
+ghost use Rattle.typed_programs.specs.Program as program;
+ghost use Rattle.typed_programs.specs.Scopes as scopes;
 
-use merge_decl::NameTable;
+use name_tables::NameTable;
 use rev_report::Limit;
 use rev_syntax::{Decl, Expr, Link, Name, Node, Size};
 use std::alloc::{AllocError, Global};

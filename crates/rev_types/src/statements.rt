@@ -6,19 +6,19 @@ ghost use Rattle.rev_syntax.specs.View.{print_item, stmt, expression, placed_nam
 ghost use Rattle.rev_report.specs.declared.limit.Limit.TheVariants as limits;
 ghost use Rattle.rev_report.specs.Limits.{first_past};
 ghost use Rattle.rev_kinds.specs.Walk.{both, names_of};
-ghost use Rattle.rev_types.specs.Statements as statements;
-ghost use Rattle.rev_types.specs.Scopes as scopes;
+ghost use Rattle.typed_programs.specs.Statements as statements;
+ghost use Rattle.typed_programs.specs.Scopes as scopes;
 ghost use Rattle.rev_types.specs.Walk as rule;
 
-use merge_decl::NameTable;
+use name_tables::NameTable;
 use rev_kinds::{
-    Checker, Holder, Locals, TypeFault, alike, array_use, first, name_kind, not_rev,
-    right_side_place, scalar_use,
+    Checker, Locals, alike, array_use, first, name_kind, not_rev, right_side_place, scalar_use,
 };
 use rev_num::ValueKind;
 use rev_report::Limit;
 use rev_syntax::{Arm, Block, Expr, Form, Item, Name, Rhs, Stmt};
 use std::alloc::{AllocError, Global};
+use typed_programs::{Holder, TypeFault};
 
 /// The locals of a body: those in scope, and how many more there may be, up to and with the first
 /// past the limit.

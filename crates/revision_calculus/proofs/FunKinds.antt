@@ -8,29 +8,29 @@ use Rattle.rev_num.specs.declared.value.ValueKind.{ValueKind}
 use Rattle.rev_num.specs.declared.value.ValueKind.TheVariants as k
 use Rattle.rev_syntax.specs.Trees.{PlacedName, Parameter, Expression, Declaration, fun, merge, shared, proc, ProgramTree}
 use Rattle.rev_syntax.specs.Small.{name_formed, expression_formed, expression_small, parameter_formed, declaration_small}
-use Rattle.merge_decl.specs.Names.{Name, same}
-use Rattle.merge_decl.specs.Table.{find, added}
-use Rattle.merge_decl.specs.FunRules.{Use, expression_uses, statements_uses, later_here, broken_by, broken_in, declarations_uses, first_fun}
-use Rattle.merge_decl.specs.FunRules as rule
-use Rattle.merge_decl.specs.declared.expand.FunHead.{FunHead}
+use Rattle.name_tables.specs.Names.{Name, same}
+use Rattle.name_tables.specs.Table.{find, added}
+use Rattle.typed_programs.specs.FunRules.{Use, expression_uses, statements_uses, later_here, broken_by, broken_in, declarations_uses, first_fun}
+use Rattle.typed_programs.specs.FunRules as rule
+use Rattle.typed_programs.specs.declared.expanded.FunHead.{FunHead}
 use Rattle.std.specs.Option.{option_or}
-use Rattle.merge_decl.specs.Value.{Fun, Funs, FunDef, bind, bind_all, nothing, inside, fun_value, funs_of}
-use Rattle.merge_decl.specs.Definitions.{names_of, fun_def, funs_after, funs_in, MergeDef, merge_def, merges_after, merges_in, merged, merge_value_of}
-use Rattle.merge_decl.specs.Definitions as definition
-use Rattle.merge_decl.proofs.Tables.{same_equal, or_else, or_else-none, or_else-step, find-added}
-use Rattle.rev_kinds.specs.Kinds.{Callee, Names, Locals}
-use Rattle.rev_kinds.specs.Typing.{HasKind}
-use Rattle.rev_kinds.proofs.Lists.{parts, failed, and_parts}
-use Rattle.rev_types.specs.Scopes.{fun_named, outside, within, with_params, merge_locals, int_param}
-use Rattle.rev_kinds.proofs.Uses.{OfUses, uses_fine}
-use Rattle.rev_types.specs.Judgement.{ParamsNew, DeclarationsTyped, ProgramTyped}
-use Rattle.rev_types.proofs.Applying.{broken_parts, small_formed}
-use Rattle.rev_types.proofs.DeclsSound.{program_typed}
+use Rattle.typed_programs.specs.Value.{Fun, Funs, FunDef, bind, bind_all, nothing, inside, fun_value, funs_of}
+use Rattle.typed_programs.specs.Definitions.{names_of, fun_def, funs_after, funs_in, MergeDef, merge_def, merges_after, merges_in, merged, merge_value_of}
+use Rattle.typed_programs.specs.Definitions as definition
+use Rattle.name_tables.proofs.Tables.{same_equal, or_else, or_else-none, or_else-step, find-added}
+use Rattle.typed_programs.specs.Kinds.{Callee, Names, Locals}
+use Rattle.typed_programs.specs.Typing.{HasKind}
+use Rattle.typed_programs.proofs.Lists.{parts, failed, and_parts}
+use Rattle.typed_programs.specs.Scopes.{fun_named, outside, within, with_params, merge_locals, int_param}
+use Rattle.typed_programs.proofs.Uses.{OfUses, uses_fine}
+use Rattle.typed_programs.specs.Judgement.{ParamsNew, DeclarationsTyped, ProgramTyped}
+use Rattle.typed_programs.proofs.Applying.{broken_parts, small_formed}
+use Rattle.typed_programs.proofs.DeclsSound.{program_typed}
 use Rattle.revision_calculus.specs.Kinded.{IsAccepted, IsOf, IsSomeOf}
 use Rattle.revision_calculus.proofs.Values.{OfOk}
 use Rattle.revision_calculus.proofs.ValueKinds.{EnvIs, ArgsAre, FunIs, uses_all, CanApply, value_is}
-use Rattle.merge_decl.proofs.Firsts.{first_from, known_or_later}
-use Rattle.rev_types.proofs.MergeParams.{merge_new}
+use Rattle.typed_programs.proofs.Firsts.{first_from, known_or_later}
+use Rattle.typed_programs.proofs.MergeParams.{merge_new}
 
 -- ---- parameters
 

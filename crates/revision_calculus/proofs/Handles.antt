@@ -4,11 +4,11 @@ use Rattle.rev_num.specs.Path.{Path}
 use Rattle.rev_num.specs.declared.value.Value.{Value}
 use Rattle.rev_num.specs.declared.value.Value.TheVariants as v
 use Rattle.rev_syntax.specs.Trees.{Expression, Expressions}
-use Rattle.merge_decl.specs.Names.{Name, same}
-use Rattle.merge_decl.specs.Table.{Table, find}
-use Rattle.merge_decl.specs.Value.{scalar, array}
-use Rattle.merge_decl.specs.Definitions.{funs_in}
-use Rattle.rev_types.specs.Layout.{SharedVariable, variables}
+use Rattle.name_tables.specs.Names.{Name, same}
+use Rattle.name_tables.specs.Table.{Table, find}
+use Rattle.typed_programs.specs.Value.{scalar, array}
+use Rattle.typed_programs.specs.Definitions.{funs_in}
+use Rattle.typed_programs.specs.Layout.{SharedVariable, variables}
 use Rattle.revision_calculus.specs.Program.{variable_named, Setting}
 use Rattle.revision_calculus.specs.State.{Location, view, view_at, write_at, fresh, Frame, Local}
 use Rattle.revision_calculus.specs.Evaluation.{top_locals, read_shared, env, eval, evals, with_local}

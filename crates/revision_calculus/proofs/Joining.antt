@@ -7,9 +7,9 @@ use Rattle.rev_num.specs.declared.value.NumFault.{NumFault}
 use Rattle.rev_num.specs.declared.outcome.Cause.TheVariants as cause
 use Rattle.rev_num.specs.declared.outcome.Trap.{Trap}
 use Rattle.rev_syntax.specs.Trees.{ProgramTree}
-use Rattle.merge_decl.specs.Names.{Name}
-use Rattle.merge_decl.specs.Value.{number_of}
-use Rattle.rev_types.specs.Layout.{variables}
+use Rattle.name_tables.specs.Names.{Name}
+use Rattle.typed_programs.specs.Value.{number_of}
+use Rattle.typed_programs.specs.Layout.{variables}
 use Rattle.revision_calculus.specs.Program.{Setting}
 use Rattle.revision_calculus.specs.State.{Location, view, Phase, running, joining, done, trapped, Local}
 use Rattle.revision_calculus.specs.Evaluation.{give}

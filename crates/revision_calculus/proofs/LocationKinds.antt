@@ -8,14 +8,14 @@ use Rattle.rev_num.specs.declared.value.ValueKind.{ValueKind}
 use Rattle.rev_num.specs.declared.value.ValueKind.TheVariants as k
 use Rattle.rev_num.specs.declared.value.NumFault.{NumFault}
 use Rattle.rev_syntax.specs.Trees.{PlacedName, ArraySize, Constant, Declaration, fun, merge, shared, proc, ProgramTree}
-use Rattle.merge_decl.specs.Names.{Name, same}
-use Rattle.merge_decl.specs.Value.{number_of, scalar, array}
-use Rattle.rev_kinds.specs.declared.names.Holder.{Holder}
-use Rattle.rev_kinds.specs.Kinds.{Names}
-use Rattle.rev_types.specs.Scopes.{cells_of, holder, shared_named}
-use Rattle.rev_types.specs.Judgement.{ByTyped, FirstTyped, DeclarationsTyped}
-use Rattle.rev_types.specs.Layout.{SharedVariable, merge_at, merge_of, variable_behind, variables_behind}
-use Rattle.rev_types.specs.Limits.{cells}
+use Rattle.name_tables.specs.Names.{Name, same}
+use Rattle.typed_programs.specs.Value.{number_of, scalar, array}
+use Rattle.typed_programs.specs.declared.names.Holder.{Holder}
+use Rattle.typed_programs.specs.Kinds.{Names}
+use Rattle.typed_programs.specs.Scopes.{cells_of, holder, shared_named}
+use Rattle.typed_programs.specs.Judgement.{ByTyped, FirstTyped, DeclarationsTyped}
+use Rattle.typed_programs.specs.Layout.{SharedVariable, merge_at, merge_of, variable_behind, variables_behind}
+use Rattle.typed_programs.specs.Limits.{cells}
 use Rattle.revision_calculus.specs.Program.{zero_value, constant_value, first_value, variable_named}
 use Rattle.revision_calculus.specs.Evaluation.{read_shared}
 use Rattle.revision_calculus.specs.State.{Location, view, view_at, write_at, fresh}

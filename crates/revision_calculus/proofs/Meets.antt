@@ -8,8 +8,8 @@ use Rattle.rev_num.specs.declared.value.Value.TheVariants as v
 use Rattle.rev_syntax.specs.Trees.{Constant, Declaration, fun, merge, shared, proc}
 use Rattle.revision_machine.specs.Machine.{Event, Joins, Ended}
 use Rattle.revision_machine.specs.Conditions.{Counts, Handles, HoldsNone, Spends, PaysForks}
-use Rattle.rev_types.specs.Scopes.{cells_of}
-use Rattle.rev_types.specs.Layout.{variables_behind, variables}
+use Rattle.typed_programs.specs.Scopes.{cells_of}
+use Rattle.typed_programs.specs.Layout.{variables_behind, variables}
 use Rattle.revision_calculus.specs.Program.{zero_value, constant_value, first_value, Setting}
 use Rattle.revision_calculus.specs.State.{running, joining, fresh, Local}
 use Rattle.revision_calculus.specs.Step.{next}

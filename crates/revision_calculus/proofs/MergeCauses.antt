@@ -7,12 +7,12 @@ use Rattle.rev_num.specs.declared.value.ValueKind.TheVariants as k
 use Rattle.rev_num.specs.declared.outcome.Cause.{Cause}
 use Rattle.rev_num.specs.declared.outcome.Cause.TheVariants as cause
 use Rattle.rev_syntax.specs.Trees.{Expression, placed, ExpressionForm, Expressions, Links, int, bool, no_rev, var, cell, apply, input, inputs, pick, unary, chain, no_expressions, expression, no_links, link, Parameter, Declaration, fun, merge, shared, proc, ProgramTree}
-use Rattle.merge_decl.specs.Value.{Answer, FunDef, inside, funs_of}
-use Rattle.merge_decl.specs.Definitions.{fun_def, MergeDef, merges_after, merges_in, merged_by, merge_value_of}
-use Rattle.rev_kinds.specs.Kinds.{Names, Locals}
-use Rattle.rev_kinds.specs.Typing.{HasKind, ExpressionFormHas, ArgsHave, LinksHave}
-use Rattle.rev_types.specs.Scopes.{outside, within}
-use Rattle.rev_types.specs.Judgement.{DeclarationsTyped}
+use Rattle.typed_programs.specs.Value.{Answer, FunDef, inside, funs_of}
+use Rattle.typed_programs.specs.Definitions.{fun_def, MergeDef, merges_after, merges_in, merged_by, merge_value_of}
+use Rattle.typed_programs.specs.Kinds.{Names, Locals}
+use Rattle.typed_programs.specs.Typing.{HasKind, ExpressionFormHas, ArgsHave, LinksHave}
+use Rattle.typed_programs.specs.Scopes.{outside, within}
+use Rattle.typed_programs.specs.Judgement.{DeclarationsTyped}
 use Rattle.revision_calculus.specs.Kinded.{IsAccepted, IsOf, IsNumberOrFault, MergeLaw}
 use Rattle.revision_calculus.proofs.Values.{OfOk}
 use Rattle.revision_calculus.proofs.Causes.{OfErr, Inputs, FormInputs, AllInputs, LinksInputs, BodiesInputs, value_err, funs_err}

@@ -5,8 +5,8 @@ use Rattle.rev_num.specs.declared.value.Value.{Value}
 use Rattle.rev_num.specs.declared.outcome.Trap.{Trap}
 use Rattle.rev_syntax.specs.Trees.{Statements}
 use Rattle.revision_machine.specs.Machine.{Event, Moves, Forks, Joins, Ended}
-use Rattle.merge_decl.specs.Names.{Name}
-use Rattle.rev_types.specs.Layout.{SharedVariable, variables, Procedure}
+use Rattle.name_tables.specs.Names.{Name}
+use Rattle.typed_programs.specs.Layout.{SharedVariable, variables, Procedure}
 use Rattle.revision_calculus.specs.Program.{variable_named, Setting}
 use Rattle.revision_calculus.specs.State.{write_at, Frame, Phase, running, joining, done, trapped, Local}
 use Rattle.revision_calculus.specs.Evaluation.{on_top, set_local, set_named, set, give}

@@ -10,7 +10,7 @@ use Rattle.revision_machine.proofs.Standing.{standing_law}
 use Rattle.revision_machine.proofs.Ends.{unique_end}
 use Rattle.revision_machine.proofs.Blocked.{no_blocked_end}
 use Rattle.revision_machine.proofs.Completion.{completion_law}
-use Rattle.rev_types.specs.Layout.{variables}
+use Rattle.typed_programs.specs.Layout.{variables}
 use Rattle.revision_calculus.specs.Program.{Setting}
 use Rattle.revision_calculus.specs.State.{Phase, running, joining, done, trapped, Local}
 use Rattle.revision_calculus.specs.Step.{next}

@@ -4,13 +4,13 @@ use Rattle.rev_num.specs.declared.outcome.Outcome.{Outcome}
 use Rattle.rev_num.specs.declared.outcome.Outcome.TheVariants as o
 use Rattle.rev_num.specs.declared.outcome.Shown.{Shown}
 use Rattle.rev_syntax.specs.Trees.{ArraySize, SharedDeclaration, Declaration, fun, merge, shared, proc}
-use Rattle.merge_decl.specs.Names.{Name}
+use Rattle.name_tables.specs.Names.{Name}
 use Rattle.revision_machine.specs.Machine.{Entry, Global, Twice, Live}
 use Rattle.revision_machine.specs.Laws.{local_of, Everywhere}
 use Rattle.revision_machine.proofs.KeptByEvents.{kept_law}
-use Rattle.rev_types.specs.Layout.{variable_behind, variables_behind, variables}
-use Rattle.rev_types.specs.Limits.{cells}
-use Rattle.rev_types.specs.Scopes.{cells_of}
+use Rattle.typed_programs.specs.Layout.{variable_behind, variables_behind, variables}
+use Rattle.typed_programs.specs.Limits.{cells}
+use Rattle.typed_programs.specs.Scopes.{cells_of}
 use Rattle.revision_calculus.specs.Program.{Setting}
 use Rattle.revision_calculus.specs.State.{Location, Phase, running, joining, done, trapped, Local}
 use Rattle.revision_calculus.specs.Calculus.{main, calculus}

@@ -8,25 +8,25 @@ use Rattle.rev_num.specs.declared.value.ValueKind.{ValueKind}
 use Rattle.rev_syntax.specs.Trees.{PlacedName, Parameter, Statement, statement, bind, assign, assign_cell, choose, choose_or, repeat, call, return, fork, join, print, assert, Statements, no_statements, statements, Declaration, fun, merge, shared, proc}
 use Rattle.rev_syntax.specs.Small.{name_formed, parameter_formed, statement_small, statements_small, declaration_small}
 use Rattle.rev_syntax.proofs.Lists.{same-self}
-use Rattle.merge_decl.specs.Names.{Name, same}
-use Rattle.merge_decl.specs.Table.{Table, find, added}
-use Rattle.merge_decl.specs.Definitions.{names_of}
-use Rattle.merge_decl.proofs.Tables.{same_equal, or_else, or_else-none, or_else-step, find-added}
-use Rattle.rev_kinds.specs.declared.names.Holder.{Holder}
-use Rattle.rev_kinds.specs.Kinds.{Callee, Names, Locals}
-use Rattle.rev_kinds.specs.Typing.{ScalarHas}
-use Rattle.rev_kinds.proofs.Lists.{and_parts}
-use Rattle.rev_types.specs.Scopes.{proc_named, with_params}
-use Rattle.rev_types.specs.Statements.{statement_returns, statements_return}
-use Rattle.rev_types.specs.Judgement.{IsNew, ParamsNew, StatementTyped, StatementsTyped, Returns, DeclarationsTyped}
-use Rattle.rev_types.specs.Layout.{Procedure, procedures_from}
+use Rattle.name_tables.specs.Names.{Name, same}
+use Rattle.name_tables.specs.Table.{Table, find, added}
+use Rattle.typed_programs.specs.Definitions.{names_of}
+use Rattle.name_tables.proofs.Tables.{same_equal, or_else, or_else-none, or_else-step, find-added}
+use Rattle.typed_programs.specs.declared.names.Holder.{Holder}
+use Rattle.typed_programs.specs.Kinds.{Callee, Names, Locals}
+use Rattle.typed_programs.specs.Typing.{ScalarHas}
+use Rattle.typed_programs.proofs.Lists.{and_parts}
+use Rattle.typed_programs.specs.Scopes.{proc_named, with_params}
+use Rattle.typed_programs.specs.Statements.{statement_returns, statements_return}
+use Rattle.typed_programs.specs.Judgement.{IsNew, ParamsNew, StatementTyped, StatementsTyped, Returns, DeclarationsTyped}
+use Rattle.typed_programs.specs.Layout.{Procedure, procedures_from}
 use Rattle.revision_calculus.specs.Program.{procedure_named}
 use Rattle.revision_calculus.specs.State.{Frame}
 use Rattle.revision_calculus.specs.Evaluation.{with_local}
 use Rattle.revision_calculus.specs.Step.{append, locals_of, frame_of}
 use Rattle.revision_calculus.specs.Kinded.{IsOf, IsSomeOf, LocalsAre, IsWithin, RestTyped, FrameIs, Takes, FramesAre, FramesTrapped}
 use Rattle.revision_calculus.proofs.ValueKinds.{and_both, ArgsAre}
-use Rattle.rev_types.proofs.Returning.{ends_return, returns_end}
+use Rattle.typed_programs.proofs.Returning.{ends_return, returns_end}
 
 -- ---- names
 

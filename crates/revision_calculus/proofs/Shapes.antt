@@ -14,11 +14,11 @@ use Rattle.rev_syntax.specs.Trees.{RightSide, plain, called, tried, Statement, s
 use Rattle.rev_syntax.specs.Trees as t
 use Rattle.revision_machine.specs.Machine.{Event, Moves, Forks, Joins, Ended}
 use Rattle.revision_machine.specs.Conditions.{IsKept}
-use Rattle.merge_decl.specs.Names.{Name}
-use Rattle.merge_decl.specs.Value.{and_then, truth_of, number_of}
-use Rattle.rev_types.specs.Layout.{SharedVariable, variable_behind, variables_behind, variables, procedures, Procedure}
-use Rattle.rev_types.specs.Limits.{cells}
-use Rattle.rev_types.specs.Scopes.{cells_of}
+use Rattle.name_tables.specs.Names.{Name}
+use Rattle.typed_programs.specs.Value.{and_then, truth_of, number_of}
+use Rattle.typed_programs.specs.Layout.{SharedVariable, variable_behind, variables_behind, variables, procedures, Procedure}
+use Rattle.typed_programs.specs.Limits.{cells}
+use Rattle.typed_programs.specs.Scopes.{cells_of}
 use Rattle.revision_calculus.specs.Program.{first_of, variable_named, procedure_named, Setting}
 use Rattle.revision_calculus.specs.State.{Location, view, write_at, fresh, Frame, Phase, running, joining, done, trapped, Local}
 use Rattle.revision_calculus.specs.Evaluation.{eval, evals, on_top, set_named, set, give, cell_location}

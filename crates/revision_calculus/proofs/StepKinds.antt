@@ -17,20 +17,20 @@ use Rattle.revision_machine.specs.Machine.{Event, Moves, Forks, Joins, Ended, Gl
 use Rattle.revision_machine.specs.Laws.{local_of, Everywhere}
 use Rattle.revision_machine.proofs.KeptByEvents.{kept_law}
 use Rattle.revision_machine.specs.Conditions.{IsKept}
-use Rattle.merge_decl.specs.Names.{Name}
-use Rattle.merge_decl.specs.Table.{find, added}
-use Rattle.merge_decl.specs.FunRules.{count, expression_uses, expressions_uses}
-use Rattle.merge_decl.specs.Value.{Answer, and_then, truth_of, number_of, array, funs_of}
-use Rattle.merge_decl.specs.Definitions.{funs_in}
-use Rattle.rev_kinds.specs.declared.names.Holder.{Holder}
-use Rattle.rev_kinds.specs.Kinds.{Callee, Locals}
-use Rattle.rev_kinds.specs.Typing.{ScalarHas, ArrayHas, HasKind, ArgsHave}
-use Rattle.rev_kinds.proofs.Lists.{and_parts}
-use Rattle.rev_types.specs.Scopes.{within, shared_named, proc_named, with_params}
-use Rattle.rev_types.specs.Statements.{statement_returns, statements_return, arms_return}
-use Rattle.rev_types.specs.Judgement.{CallTyped, RightSideHas, ReturnTyped, StatementTyped, StatementsTyped, ArmsTyped, Returns, ProgramTyped}
-use Rattle.rev_types.proofs.Applying.{small_formed}
-use Rattle.rev_types.specs.Layout.{SharedVariable, variables, procedures, Procedure}
+use Rattle.name_tables.specs.Names.{Name}
+use Rattle.name_tables.specs.Table.{find, added}
+use Rattle.typed_programs.specs.FunRules.{count, expression_uses, expressions_uses}
+use Rattle.typed_programs.specs.Value.{Answer, and_then, truth_of, number_of, array, funs_of}
+use Rattle.typed_programs.specs.Definitions.{funs_in}
+use Rattle.typed_programs.specs.declared.names.Holder.{Holder}
+use Rattle.typed_programs.specs.Kinds.{Callee, Locals}
+use Rattle.typed_programs.specs.Typing.{ScalarHas, ArrayHas, HasKind, ArgsHave}
+use Rattle.typed_programs.proofs.Lists.{and_parts}
+use Rattle.typed_programs.specs.Scopes.{within, shared_named, proc_named, with_params}
+use Rattle.typed_programs.specs.Statements.{statement_returns, statements_return, arms_return}
+use Rattle.typed_programs.specs.Judgement.{CallTyped, RightSideHas, ReturnTyped, StatementTyped, StatementsTyped, ArmsTyped, Returns, ProgramTyped}
+use Rattle.typed_programs.proofs.Applying.{small_formed}
+use Rattle.typed_programs.specs.Layout.{SharedVariable, variables, procedures, Procedure}
 use Rattle.revision_calculus.specs.Program.{variable_named, procedure_named, Setting}
 use Rattle.revision_calculus.specs.State.{Location, write_at, Frame, Phase, running, joining, done, trapped, Local}
 use Rattle.revision_calculus.specs.Evaluation.{top_locals, env, eval, evals, on_top, set_local, set_named, set, give, location_of, cell_location}
@@ -47,7 +47,7 @@ use Rattle.revision_calculus.proofs.FunKinds.{rules_kept, funs_apply}
 use Rattle.revision_calculus.proofs.MergeCauses.{merge_law}
 use Rattle.revision_calculus.proofs.LocationKinds.{IsAt, shared_is, write_is, fresh_is, Located, located, start_is, MergesFit, merges_fit, compose_is, merge_locations}
 use Rattle.revision_calculus.proofs.ScopeKinds.{within_self, whole_typed, block_typed, block_small, returns_behind, returns_block, returns_before, shared_new, locals_wait, locals_within, locals_let, let_takes, locals_set, locals_shared, ProcIs, proc_is, call_frame, none_waits, are_trapped}
-use Rattle.rev_types.proofs.Returning.{none_end, both_true}
+use Rattle.typed_programs.proofs.Returning.{none_end, both_true}
 
 if_ok : (P : Value → Type 0) (a : Answer) → OfOk P a → IfOk a P
 if_ok P (Ok x) h = h

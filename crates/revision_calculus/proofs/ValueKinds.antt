@@ -16,16 +16,16 @@ use Rattle.rev_syntax.specs.declared.tree.UnaryOp.{UnaryOp}
 use Rattle.rev_syntax.specs.declared.tree.UnaryOp.TheVariants as u
 use Rattle.rev_syntax.specs.declared.tree.BinaryOp.{BinaryOp}
 use Rattle.rev_syntax.specs.declared.tree.BinaryOp.TheVariants as b
-use Rattle.merge_decl.specs.Names.{Name}
-use Rattle.merge_decl.specs.Table.{find}
-use Rattle.merge_decl.specs.FunRules.{Use, count, expression_uses, expression_form_uses, expressions_uses, links_uses}
-use Rattle.merge_decl.specs.Value.{Answer, and_then, number_of, truth_of, number, operated, short, linked, reversed, Shared, unknown, scalar, array, Env, read_cell, taken, read_input, read, Fun, Funs, called, value_by, expression_form_value, values_by, chained}
-use Rattle.rev_kinds.specs.declared.names.Holder.{Holder}
-use Rattle.rev_kinds.specs.Kinds.{Callee, Names, Locals, operand_kind, given_kind, links_kind}
-use Rattle.rev_kinds.specs.Typing.{ScalarHas, ArrayHas, TakesRightSide, HasKind, ExpressionFormHas, ArgsHave, LinksHave}
-use Rattle.rev_kinds.proofs.Lists.{and_parts}
-use Rattle.rev_kinds.proofs.Uses.{OfUses, uses_parts}
-use Rattle.rev_types.proofs.Applying.{small_formed}
+use Rattle.name_tables.specs.Names.{Name}
+use Rattle.name_tables.specs.Table.{find}
+use Rattle.typed_programs.specs.FunRules.{Use, count, expression_uses, expression_form_uses, expressions_uses, links_uses}
+use Rattle.typed_programs.specs.Value.{Answer, and_then, number_of, truth_of, number, operated, short, linked, reversed, Shared, unknown, scalar, array, Env, read_cell, taken, read_input, read, Fun, Funs, called, value_by, expression_form_value, values_by, chained}
+use Rattle.typed_programs.specs.declared.names.Holder.{Holder}
+use Rattle.typed_programs.specs.Kinds.{Callee, Names, Locals, operand_kind, given_kind, links_kind}
+use Rattle.typed_programs.specs.Typing.{ScalarHas, ArrayHas, TakesRightSide, HasKind, ExpressionFormHas, ArgsHave, LinksHave}
+use Rattle.typed_programs.proofs.Lists.{and_parts}
+use Rattle.typed_programs.proofs.Uses.{OfUses, uses_parts}
+use Rattle.typed_programs.proofs.Applying.{small_formed}
 use Rattle.revision_calculus.specs.Kinded.{IsOf, IsSomeOf}
 use Rattle.revision_calculus.proofs.Values.{OfOk, then_ok}
 

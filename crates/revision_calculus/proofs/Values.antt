@@ -14,9 +14,9 @@ use Rattle.rev_syntax.specs.declared.tree.UnaryOp.{UnaryOp}
 use Rattle.rev_syntax.specs.declared.tree.UnaryOp.TheVariants as u
 use Rattle.rev_syntax.specs.declared.tree.BinaryOp.{BinaryOp}
 use Rattle.rev_syntax.specs.declared.tree.BinaryOp.TheVariants as b
-use Rattle.merge_decl.specs.Names.{Name, same}
+use Rattle.name_tables.specs.Names.{Name, same}
 use Rattle.std.specs.Option.{option_or}
-use Rattle.merge_decl.specs.Value.{Answer, and_then, number_of, truth_of, number, operated, short, linked, reversed, Shared, unknown, scalar, array, Env, read_cell, taken, read_input, read, Fun, Funs, called, value_by, expression_form_value, values_by, chained, FunDef, bind, bind_all, nothing, inside, fun_value, funs_of, same_value}
+use Rattle.typed_programs.specs.Value.{Answer, and_then, number_of, truth_of, number, operated, short, linked, reversed, Shared, unknown, scalar, array, Env, read_cell, taken, read_input, read, Fun, Funs, called, value_by, expression_form_value, values_by, chained, FunDef, bind, bind_all, nothing, inside, fun_value, funs_of, same_value}
 
 -- what holds of the result, where there is one
 abbrev pub OfOk : {A E : Type 0} → (A → Type 0) → Result A E → Type 0

@@ -5,7 +5,7 @@
 use Rattle.std.specs.Prelude.{ℕ, List, [], ◌∷◌, ◌++◌, replicate, None}
 use Rattle.rev_num.specs.declared.value.Value.{Value}
 use Rattle.revision_machine.specs.Machine.{Machine}
-use Rattle.rev_types.specs.Layout.{SharedVariable, variables}
+use Rattle.typed_programs.specs.Layout.{SharedVariable, variables}
 use Rattle.revision_calculus.specs.Program.{first_of, Setting}
 use Rattle.revision_calculus.specs.State.{begun, Local}
 use Rattle.revision_calculus.specs.Step.{next}

@@ -7,11 +7,11 @@ use Rattle.rev_num.specs.declared.value.Value.{Value}
 use Rattle.rev_num.specs.declared.outcome.Cause.{Cause}
 use Rattle.rev_num.specs.declared.outcome.Cause.TheVariants as cause
 use Rattle.rev_syntax.specs.Trees.{Expression, Expressions}
-use Rattle.merge_decl.specs.Names.{Name, same}
-use Rattle.merge_decl.specs.Table.{Table, find}
-use Rattle.merge_decl.specs.Value.{Answer, Shared, unknown, scalar, array, Env, funs_of, value_by, values_by}
-use Rattle.merge_decl.specs.Definitions.{funs_in}
-use Rattle.rev_types.specs.Layout.{SharedVariable, variables}
+use Rattle.name_tables.specs.Names.{Name, same}
+use Rattle.name_tables.specs.Table.{Table, find}
+use Rattle.typed_programs.specs.Value.{Answer, Shared, unknown, scalar, array, Env, funs_of, value_by, values_by}
+use Rattle.typed_programs.specs.Definitions.{funs_in}
+use Rattle.typed_programs.specs.Layout.{SharedVariable, variables}
 use Rattle.revision_calculus.specs.Program.{variable_named, Setting}
 use Rattle.revision_calculus.specs.State.{Location, view_at, write_at, Frame, Local}
 

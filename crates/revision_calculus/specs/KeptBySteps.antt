@@ -9,7 +9,7 @@ use Rattle.rev_num.specs.declared.outcome.Cause.TheVariants as cause
 use Rattle.rev_num.specs.declared.outcome.Outcome.{Outcome}
 use Rattle.rev_num.specs.declared.outcome.Outcome.TheVariants as o
 use Rattle.revision_machine.specs.Machine.{Global, Reached}
-use Rattle.rev_types.specs.Limits.{cells}
+use Rattle.typed_programs.specs.Limits.{cells}
 use Rattle.revision_calculus.specs.Program.{Setting}
 use Rattle.revision_calculus.specs.State.{Phase, running, joining, done, trapped, Local}
 use Rattle.revision_calculus.specs.Step.{most_frames}

@@ -11,18 +11,18 @@ use Rattle.rev_num.specs.declared.value.ValueKind.TheVariants as kind
 use Rattle.rev_num.specs.declared.outcome.Cause.TheVariants as cause
 use Rattle.rev_syntax.specs.Trees.{Expression, Statements, no_statements, statements, Declaration, fun, merge, shared, proc, ProgramTree}
 use Rattle.rev_syntax.specs.Small.{expression_formed, statements_small, IsSmall}
-use Rattle.merge_decl.specs.Names.{Name}
-use Rattle.merge_decl.specs.Table.{Table, find}
-use Rattle.merge_decl.specs.FunRules.{fun_faults}
-use Rattle.merge_decl.specs.Value.{Answer}
-use Rattle.merge_decl.specs.Definitions.{merge_value_of}
-use Rattle.rev_kinds.specs.declared.names.Holder.{Holder}
-use Rattle.rev_kinds.specs.Kinds.{Names, Locals}
-use Rattle.rev_kinds.specs.Typing.{ScalarHas, HasKind}
-use Rattle.rev_types.specs.Program.{faults}
-use Rattle.rev_types.specs.Scopes.{cells_of, outside}
-use Rattle.rev_types.specs.Judgement.{StatementTyped, Returns}
-use Rattle.rev_types.specs.Layout.{variables}
+use Rattle.name_tables.specs.Names.{Name}
+use Rattle.name_tables.specs.Table.{Table, find}
+use Rattle.typed_programs.specs.FunRules.{fun_faults}
+use Rattle.typed_programs.specs.Value.{Answer}
+use Rattle.typed_programs.specs.Definitions.{merge_value_of}
+use Rattle.typed_programs.specs.declared.names.Holder.{Holder}
+use Rattle.typed_programs.specs.Kinds.{Names, Locals}
+use Rattle.typed_programs.specs.Typing.{ScalarHas, HasKind}
+use Rattle.typed_programs.specs.Program.{faults}
+use Rattle.typed_programs.specs.Scopes.{cells_of, outside}
+use Rattle.typed_programs.specs.Judgement.{StatementTyped, Returns}
+use Rattle.typed_programs.specs.Layout.{variables}
 use Rattle.revision_machine.specs.Machine.{Entry, Global, Twice, Live, Reached}
 use Rattle.revision_machine.specs.Laws.{local_of}
 use Rattle.revision_calculus.specs.Program.{Setting}

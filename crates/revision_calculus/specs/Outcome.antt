@@ -8,8 +8,8 @@ use Rattle.rev_num.specs.declared.outcome.Outcome.TheVariants as o
 use Rattle.rev_num.specs.declared.outcome.Shown.{Shown}
 use Rattle.revision_machine.specs.Machine.{Entry, Global, Twice, Live}
 use Rattle.revision_machine.specs.Laws.{local_of}
-use Rattle.merge_decl.specs.Names.{Name}
-use Rattle.rev_types.specs.Layout.{SharedVariable, variables}
+use Rattle.name_tables.specs.Names.{Name}
+use Rattle.typed_programs.specs.Layout.{SharedVariable, variables}
 use Rattle.revision_calculus.specs.Program.{Setting}
 use Rattle.revision_calculus.specs.State.{Location, view_at, Phase, done, trapped, Local}
 

@@ -1,16 +1,16 @@
 -- What a run is given, and what it looks up in the tables of its program.
 --
--- The tables are those of the checker (`rev_types`, `specs/Layout.antt`). `first_of` is the start value of a shared
--- variable; `variable_named` and `procedure_named` find a row by its name; a `Setting` is a program with its inputs
--- and the most fuel that a fork gives.
+-- The tables are those of the checker (`typed_programs`, `specs/Layout.antt`). `first_of` is the start value of a
+-- shared variable; `variable_named` and `procedure_named` find a row by its name; a `Setting` is a program with its
+-- inputs and the most fuel that a fork gives.
 use Rattle.std.specs.Prelude.{ℕ, ℤ, pos, false, List, [], ◌∷◌, Option, Some, None, if◌then◌else◌}
 use Rattle.rev_num.specs.declared.value.Value.{Value}
 use Rattle.rev_num.specs.declared.value.Value.TheVariants as v
 use Rattle.rev_num.specs.declared.value.ValueKind.{ValueKind}
 use Rattle.rev_num.specs.declared.value.ValueKind.TheVariants as kind
 use Rattle.rev_syntax.specs.Trees.{no_statements, Constant, ProgramTree}
-use Rattle.merge_decl.specs.Names.{Name, same}
-use Rattle.rev_types.specs.Layout.{SharedVariable, Procedure}
+use Rattle.name_tables.specs.Names.{Name, same}
+use Rattle.typed_programs.specs.Layout.{SharedVariable, Procedure}
 
 -- ---- shared variables
 

@@ -9,8 +9,8 @@ use Rattle.rev_num.specs.declared.value.Value.{Value}
 use Rattle.rev_num.specs.declared.value.Value.TheVariants as v
 use Rattle.rev_num.specs.declared.outcome.Trap.{Trap}
 use Rattle.rev_syntax.specs.Trees.{Statements}
-use Rattle.merge_decl.specs.Names.{Name}
-use Rattle.merge_decl.specs.Table.{Table}
+use Rattle.name_tables.specs.Names.{Name}
+use Rattle.name_tables.specs.Table.{Table}
 
 -- one location: its value in the snapshot, and the value that the revision wrote, if it wrote one
 pub record Location : Type 0 where

@@ -17,9 +17,9 @@ use Rattle.rev_syntax.specs.Trees as t
 use Rattle.rev_report.specs.Lines.{space, with_line_feed}
 use Rattle.rev_report.specs.Outcome.{value_text}
 use Rattle.revision_machine.specs.Machine.{Event, Moves, Forks, Joins, Ended}
-use Rattle.merge_decl.specs.Names.{Name}
-use Rattle.merge_decl.specs.Value.{and_then, truth_of, number_of}
-use Rattle.rev_types.specs.Layout.{procedures, Procedure}
+use Rattle.name_tables.specs.Names.{Name}
+use Rattle.typed_programs.specs.Value.{and_then, truth_of, number_of}
+use Rattle.typed_programs.specs.Layout.{procedures, Procedure}
 use Rattle.revision_calculus.specs.Program.{procedure_named, Setting}
 use Rattle.revision_calculus.specs.State.{begun, view, write_at, Frame, forked, Phase, running, joining, done, trapped, Local}
 use Rattle.revision_calculus.specs.Evaluation.{eval, evals, on_top, set, give, cell_location}

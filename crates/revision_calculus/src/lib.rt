@@ -1,7 +1,7 @@
 //! What a program means: the calculus of concurrent revisions over the language's programs, and the
 //! laws of its runs.
 //!
-//! `specs/Program.antt` says what a run is given and looks up, over the tables of `rev_types`;
+//! `specs/Program.antt` says what a run is given and looks up, over the tables of `typed_programs`;
 //! `specs/State.antt` has the local state of a revision; `specs/Evaluation.antt`, `specs/Step.antt`
 //! and `specs/Join.antt` say what its steps do; `specs/Calculus.antt` is the machine of revisions
 //! and its start; `specs/Outcome.antt` is what a run gives, and `rev_report` has what is written of

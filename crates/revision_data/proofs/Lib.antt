@@ -1,7 +1,4 @@
--- Proofs of revision_data: the data of a revision: its locations, what a join writes into them, what its view
--- shows, and what it printed.
-pub mod Compositions
+-- Proofs of revision_data: the data of a revision: its locations, what its view shows, and what it printed.
 pub mod Lists
 pub mod Texts
 pub mod Showing
-pub mod LightMerges

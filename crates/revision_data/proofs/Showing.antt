@@ -11,9 +11,9 @@ use Rattle.rev_syntax.specs.declared.tree.Decl.{Decl}
 use Rattle.rev_syntax.specs.declared.tree.Decl.TheVariants as decl
 use Rattle.rev_syntax.specs.View.{placed_name, array_size, constant, declaration}
 use Rattle.rev_syntax.specs.Trees.{SharedDeclaration, Declaration, fun, merge, shared, proc, ProgramTree}
-use Rattle.merge_decl.specs.Names.{Name}
-use Rattle.rev_types.specs.declared.tables.SharedInfo.{SharedInfo}
-use Rattle.rev_types.specs.Layout.{SharedVariable, variable_behind, variables_behind, variables, shared_rows}
+use Rattle.name_tables.specs.Names.{Name}
+use Rattle.typed_programs.specs.declared.shared_info.SharedInfo.{SharedInfo}
+use Rattle.typed_programs.specs.Layout.{SharedVariable, variable_behind, variables_behind, variables, shared_rows}
 use Rattle.revision_calculus.specs.State.{Location, view_at}
 use Rattle.revision_calculus.specs.Outcome.{show_cells, show_variable, show_all}
 use Rattle.revision_data.specs.Shows.{shown_by, shown_of}

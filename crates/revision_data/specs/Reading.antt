@@ -8,8 +8,8 @@ use Rattle.rev_num.specs.declared.value.Value.{Value}
 use Rattle.rev_num.specs.declared.value.Value.TheVariants as v
 use Rattle.rev_num.specs.declared.outcome.Cause.{Cause}
 use Rattle.rev_num.specs.declared.outcome.Cause.TheVariants as cause
-use Rattle.merge_decl.specs.Value.{Shared, unknown, scalar, array}
-use Rattle.rev_types.specs.declared.tables.SharedInfo.{SharedInfo}
+use Rattle.typed_programs.specs.Value.{Shared, unknown, scalar, array}
+use Rattle.typed_programs.specs.declared.shared_info.SharedInfo.{SharedInfo}
 use Rattle.revision_calculus.specs.State.{Location, view_at}
 
 -- this value, or the number 0

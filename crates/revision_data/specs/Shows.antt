@@ -1,8 +1,8 @@
 -- What is shown of a variable, by its row in the checker's table.
 use Rattle.std.specs.Prelude.{List, [], ◌∷◌, Bool, true, false, None}
 use Rattle.rev_num.specs.declared.outcome.Shown.{Shown}
-use Rattle.merge_decl.specs.Names.{Name}
-use Rattle.rev_types.specs.declared.tables.SharedInfo.{SharedInfo}
+use Rattle.name_tables.specs.Names.{Name}
+use Rattle.typed_programs.specs.declared.shared_info.SharedInfo.{SharedInfo}
 use Rattle.revision_calculus.specs.State.{Location, view_at}
 use Rattle.revision_calculus.specs.Outcome.{show_cells}
 

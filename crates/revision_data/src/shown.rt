@@ -2,7 +2,7 @@
 
 ghost use Rattle.std.specs.Prelude.{◌≡◌, ◌++◌, IfOk, OnOk};
 ghost use Rattle.rev_syntax.specs.View.{program as whole};
-ghost use Rattle.rev_types.specs.Layout.{variables};
+ghost use Rattle.typed_programs.specs.Layout.{variables};
 ghost use Rattle.revision_calculus.specs.State.{view_at};
 ghost use Rattle.revision_calculus.specs.Outcome.{show_all, show_cells};
 ghost use Rattle.revision_data.specs.Shows.{shown_of};
@@ -10,8 +10,8 @@ ghost use Rattle.revision_data.specs.Shows.{shown_of};
 use crate::location::{Location, value_at};
 use rev_num::{Items, Shown, Value};
 use rev_syntax::Decl;
-use rev_types::{SharedInfo, Typed};
 use std::alloc::{AllocError, Global};
+use typed_programs::{SharedInfo, Typed};
 
 /// The values that these locations show, each with the name of its variable, and the number of its
 /// cell in an array.

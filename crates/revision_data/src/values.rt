@@ -1,13 +1,10 @@
 //! What is read of a value.
 
-ghost use Rattle.std.specs.Prelude.{◌≡◌, ◌<◌, IfOk, IfSome};
-ghost use Rattle.merge_decl.specs.Value as spec;
-ghost use Rattle.rev_evaluator.specs.Seen.{seen};
+ghost use Rattle.std.specs.Prelude.{◌≡◌, ◌<◌, IfSome};
+ghost use Rattle.typed_programs.specs.Value as spec;
 ghost use Rattle.revision_data.specs.Reading.{place_in};
 
-use rev_evaluator::Seen;
-use rev_num::{Path, Value};
-use std::alloc::{AllocError, Global};
+use rev_num::Value;
 
 /// Whether a bool is true; other values count as false.
 pub fn is_true(value: &Value) -> bool
@@ -39,34 +36,4 @@ pub fn place(index: i64, count: usize) -> Option<usize>
     }
     let index = index as usize;
     if index < count { Some(index) } else { None }
-}
-
-/// The value, with the path of a handle borrowed.
-pub fn seen_of(value: &Value) -> Seen<'_>
-    ensures { seen result ≡ value.now }
-{
-    match value {
-        Value::Int(n) => Seen::Int(*n),
-        Value::Bool(b) => Seen::Bool(*b),
-        Value::Rev(None) => Seen::Rev(None),
-        Value::Rev(Some(path)) => Seen::Rev(Some(path)),
-    }
-}
-
-/// The value, with a path of its own.
-pub fn owned(alloc: Global, value: Seen) -> Result<Value, AllocError>
-    ensures { IfOk result (λ x. x ≡ seen value.entry) }
-{
-    match value {
-        Seen::Int(n) => Ok(Value::Int(n)),
-        Seen::Bool(b) => Ok(Value::Bool(b)),
-        Seen::Rev(None) => Ok(Value::Rev(None)),
-        Seen::Rev(Some(path)) => Ok(Value::Rev(Some(copied(alloc, path)?))),
-    }
-}
-
-fn copied(alloc: Global, path: &Path) -> Result<Path, AllocError>
-    ensures { IfOk result (λ p. p ≡ path.now) }
-{
-    path.copy(alloc)
 }

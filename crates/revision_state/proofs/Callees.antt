@@ -4,10 +4,10 @@ use Rattle.rev_num.specs.declared.value.Value.{Value}
 use Rattle.rev_syntax.specs.Trees.{Declaration, fun, merge, shared, proc, ProgramTree}
 use Rattle.rev_syntax.specs.View.{parameter}
 use Rattle.rev_syntax.specs.declared.tree.Param.{Param}
-use Rattle.merge_decl.specs.Table.{Table}
-use Rattle.merge_decl.specs.Names.{Name, same}
-use Rattle.merge_decl.specs.Definitions.{names_of}
-use Rattle.rev_types.specs.Layout.{Procedure, procedures_from, procedures}
+use Rattle.name_tables.specs.Table.{Table}
+use Rattle.name_tables.specs.Names.{Name, same}
+use Rattle.typed_programs.specs.Definitions.{names_of}
+use Rattle.typed_programs.specs.Layout.{Procedure, procedures_from, procedures}
 use Rattle.revision_calculus.specs.Program.{procedure_named}
 use Rattle.revision_calculus.specs.Step.{locals_of}
 use Rattle.revision_state.specs.Tables.{number_in, number_of, params_of, body_of, with_next}

@@ -8,9 +8,9 @@ use Rattle.std.proofs.lemmas.List.Quantifiers.{position-Some}
 use Rattle.std.proofs.lemmas.Grind.{get_or-set_at}
 use Rattle.std.proofs.lemmas.Iterator.Adapters.{position_from-zero}
 use Rattle.std.proofs.lemmas.Option.{get_or_from_slice_get, slice_get-get_or, slice_get_within}
-use Rattle.merge_decl.specs.Names.{Name, same}
-use Rattle.merge_decl.specs.Table.{Table, added, find}
-use Rattle.merge_decl.proofs.Tables.{find-added, grown, or_else, or_else-none, same_equal}
+use Rattle.name_tables.specs.Names.{Name, same}
+use Rattle.name_tables.specs.Table.{Table, added, find}
+use Rattle.name_tables.proofs.Tables.{find-added, grown, or_else, or_else-none, same_equal}
 use Rattle.revision_state.specs.LocalPlaces.{AreApart, AreBelow, AreKnown, IsPlaced, noted}
 
 cond_none : {A : Type 0} (b : Bool) (x : A) (o : Option A) → cond b (Some x) o ≡ None → (b ≡ false) × (o ≡ None)

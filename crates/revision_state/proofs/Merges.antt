@@ -2,11 +2,11 @@
 use Rattle.std.proofs.Common.{◌≡◌, ℕ, zero, suc, ◌+◌, ◌<◌, ◌≤◌, ◌⊎◌, inl, inr, Bool, true, false, cond, List, [], ◌∷◌, ◌++◌, length, map, replicate, slice_get, Option, Some, None, option_map, refl, sym, ap, ◌∙◌, arith, append_assoc, length-append}
 use Rattle.std.proofs.lemmas.List.{length-replicate}
 use Rattle.rev_syntax.specs.Trees.{PlacedName, Declaration, fun, merge, shared, proc, ProgramTree}
-use Rattle.merge_decl.specs.Names.{Name, same}
-use Rattle.merge_decl.specs.FunRules.{merge_decls}
-use Rattle.rev_types.specs.Scopes.{cells_of}
-use Rattle.rev_types.specs.Limits.{cells}
-use Rattle.rev_types.specs.Layout.{SharedVariable, merge_at, merge_of, variables_behind, variables}
+use Rattle.name_tables.specs.Names.{Name, same}
+use Rattle.typed_programs.specs.FunRules.{merge_decls}
+use Rattle.typed_programs.specs.Scopes.{cells_of}
+use Rattle.typed_programs.specs.Limits.{cells}
+use Rattle.typed_programs.specs.Layout.{SharedVariable, merge_at, merge_of, variables_behind, variables}
 use Rattle.revision_calculus.specs.Join.{merges_of}
 use Rattle.revision_state.specs.Tables.{merges_in}
 

@@ -1,8 +1,8 @@
 -- Cells of shared variables by their rows and indices.
 use Rattle.std.proofs.Common.{◌≡◌, ◌+◌, ℤ, pos, negsuc, Bool, true, false, cond, ltb, Option, Some, None, option_map, Ok, Err, refl}
 use Rattle.rev_num.specs.declared.outcome.Cause.TheVariants as cause
-use Rattle.merge_decl.specs.Names.{Name}
-use Rattle.rev_types.specs.Layout.{SharedVariable, variables}
+use Rattle.name_tables.specs.Names.{Name}
+use Rattle.typed_programs.specs.Layout.{SharedVariable, variables}
 use Rattle.revision_calculus.specs.Program.{variable_named, Setting}
 use Rattle.revision_calculus.specs.Evaluation.{location_in, location_of, cell_location}
 use Rattle.revision_data.specs.Reading.{behind, location_at}

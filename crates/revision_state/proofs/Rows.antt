@@ -1,10 +1,10 @@
 -- Tables that are filled row by row find the first row of each name.
 use Rattle.std.proofs.Common.{◌≡◌, ℕ, ◌+◌, Bool, true, false, cond, if◌then◌else◌, List, [], ◌∷◌, ◌++◌, length, map, slice_get, Option, Some, None, option_map, refl, sym, ap, ◌∙◌, arith, append_assoc, length-append}
 use Rattle.rev_syntax.specs.Trees.{Declaration, fun, merge, shared, proc, ProgramTree}
-use Rattle.merge_decl.specs.Names.{Name, same}
-use Rattle.merge_decl.specs.Table.{Table, find}
-use Rattle.merge_decl.proofs.Tables.{or_else, or_else-none, find-added}
-use Rattle.rev_types.specs.Layout.{variable_behind, info_behind, variables_behind, variables, procedures_from, procedures}
+use Rattle.name_tables.specs.Names.{Name, same}
+use Rattle.name_tables.specs.Table.{Table, find}
+use Rattle.name_tables.proofs.Tables.{or_else, or_else-none, find-added}
+use Rattle.typed_programs.specs.Layout.{variable_behind, info_behind, variables_behind, variables, procedures_from, procedures}
 use Rattle.revision_calculus.specs.Program.{variable_named}
 use Rattle.revision_state.proofs.Callees.{at_end}
 use Rattle.revision_state.specs.Tables.{entered, info_of, number_in, number_of, proc_at, proc_name, shared_at, shared_name, with_row}

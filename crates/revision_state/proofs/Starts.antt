@@ -1,8 +1,8 @@
 -- The start values of locations, row by row.
 use Rattle.std.proofs.Common.{◌≡◌, List, [], ◌∷◌, ◌++◌, length, map, replicate, slice_get, refl, sym, ap, ◌∙◌, append_assoc}
 use Rattle.rev_syntax.specs.Trees.{Declaration, fun, merge, shared, proc, ProgramTree}
-use Rattle.rev_types.specs.Scopes.{cells_of}
-use Rattle.rev_types.specs.Layout.{variables_behind, variables}
+use Rattle.typed_programs.specs.Scopes.{cells_of}
+use Rattle.typed_programs.specs.Layout.{variables_behind, variables}
 use Rattle.revision_calculus.specs.Program.{first_value}
 use Rattle.revision_calculus.specs.Calculus.{start_values}
 use Rattle.revision_state.proofs.Callees.{at_end}

@@ -5,5 +5,6 @@ pub mod LocalCodes
 pub mod LocalPlaces
 pub mod Remaining
 pub mod Phases
+pub mod Ends
 pub mod Tables
 pub mod Views

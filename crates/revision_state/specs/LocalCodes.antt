@@ -9,8 +9,8 @@ use Rattle.rev_num.specs.declared.outcome.Trap.{Trap}
 use Rattle.rev_num.specs.contracts.value.Value as value
 use Rattle.rev_num.specs.contracts.outcome.Trap as trap
 use Rattle.rev_syntax.specs.Trees.{Statements}
-use Rattle.merge_decl.specs.Names.{Name}
-use Rattle.merge_decl.specs.Table.{Table}
+use Rattle.name_tables.specs.Names.{Name}
+use Rattle.name_tables.specs.Table.{Table}
 use Rattle.revision_calculus.specs.State.{Location, Frame, Noted, forked, joined, Phase, running, joining, done, trapped, Local}
 use Rattle.revision_data.specs.LocationCodes.{coded_location}
 use Rattle.revision_state.specs.TreeCodes.{coded_name, coded_statements}

@@ -1,7 +1,7 @@
 -- Where the locals of a frame stand, by the numbers that the names of its body have.
 use Rattle.std.specs.Prelude.{◌≡◌, ◌<◌, ℕ, Bool, true, false, if◌then◌else◌, Option, Some, None, List, length, get_or, is_some, position, set, slice_get}
-use Rattle.merge_decl.specs.Names.{Name, same}
-use Rattle.merge_decl.specs.Table.{Table, find}
+use Rattle.name_tables.specs.Names.{Name, same}
+use Rattle.name_tables.specs.Table.{Table, find}
 
 -- each name's number is below how many names there are
 abbrev pub AreBelow : Table ℕ → Type 0

@@ -6,11 +6,11 @@ use Rattle.std.specs.Prelude.{ℕ, pos, ◌++◌, replicate, slice_get, Option, 
 use Rattle.rev_num.specs.declared.value.Value.{Value}
 use Rattle.rev_num.specs.declared.value.Value.TheVariants as v
 use Rattle.rev_syntax.specs.Trees.{Declaration, shared, proc, Statements, no_statements, ProgramTree}
-use Rattle.merge_decl.specs.Names.{Name, same}
-use Rattle.merge_decl.specs.Table.{Table, added}
-use Rattle.merge_decl.specs.Definitions.{names_of}
-use Rattle.rev_types.specs.declared.tables.SharedInfo.{SharedInfo}
-use Rattle.rev_types.specs.Layout.{variables, Procedure, procedures}
+use Rattle.name_tables.specs.Names.{Name, same}
+use Rattle.name_tables.specs.Table.{Table, added}
+use Rattle.typed_programs.specs.Definitions.{names_of}
+use Rattle.typed_programs.specs.declared.shared_info.SharedInfo.{SharedInfo}
+use Rattle.typed_programs.specs.Layout.{variables, Procedure, procedures}
 use Rattle.revision_calculus.specs.Program.{first_value, variable_named}
 
 abbrev pub info_of : ProgramTree → Name → Option SharedInfo

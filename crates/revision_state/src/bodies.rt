@@ -3,7 +3,7 @@
 ghost use Rattle.revision_state.specs.LocalPlaces.{AreApart, AreBelow};
 
 use crate::body_names::BodyNames;
-use merge_decl::NameTable;
+use name_tables::NameTable;
 use rev_syntax::{Arm, Block, Decl, Form, Param, Program, Stmt};
 use std::alloc::{AllocError, Global};
 use std::rc::Rc;

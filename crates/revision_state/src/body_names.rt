@@ -1,10 +1,10 @@
 //! The names of the locals of a body, each with a number.
 
 ghost use Rattle.std.specs.Prelude.{◌≡◌, length};
-ghost use Rattle.merge_decl.specs.Table.{find};
+ghost use Rattle.name_tables.specs.Table.{find};
 ghost use Rattle.revision_state.specs.LocalPlaces.{AreApart, AreBelow};
 
-use merge_decl::NameTable;
+use name_tables::NameTable;
 
 /// The names of the locals of a body, each with a number of its own. It is made once, and all
 /// frames of the body share it.

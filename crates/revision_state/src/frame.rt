@@ -4,7 +4,7 @@ ghost use Rattle.std.specs.Prelude.{◌≡◌, IfNone, IfOk, OnOk, None, Some};
 ghost use Rattle.std.specs.Prelude.{option_copied, option_map};
 ghost use Rattle.rev_syntax.specs.Trees.{no_statements};
 ghost use Rattle.rev_syntax.specs.View.{stmt, stmts};
-ghost use Rattle.merge_decl.specs.Table.{find};
+ghost use Rattle.name_tables.specs.Table.{find};
 ghost use Rattle.revision_calculus.specs.Step.{append};
 ghost use Rattle.revision_calculus.specs.Evaluation as calculus;
 ghost use Rattle.revision_state.specs.Remaining.{before, remaining};

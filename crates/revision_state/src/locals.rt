@@ -2,8 +2,8 @@
 
 ghost use Rattle.std.specs.Prelude.{◌≡◌, ◌<◌, ◌∷◌, ◌++◌, ◌||◌, [], IfOk, IfSome, None, OnOk};
 ghost use Rattle.std.specs.Prelude.{is_none, length, option_copied, position, replicate};
-ghost use Rattle.merge_decl.specs.Names.{same};
-ghost use Rattle.merge_decl.specs.Table.{find};
+ghost use Rattle.name_tables.specs.Names.{same};
+ghost use Rattle.name_tables.specs.Table.{find};
 ghost use Rattle.revision_calculus.specs.Evaluation as calculus;
 ghost use Rattle.revision_state.specs.LocalPlaces.{noted};
 

@@ -2,10 +2,10 @@
 
 ghost use Rattle.std.specs.Prelude.{◌≡◌, IfOk, None, OnOk, [], map, option_copied, option_map};
 ghost use Rattle.std.specs.Prelude.{slice_get};
-ghost use Rattle.rev_types.specs.Layout.{procedures};
+ghost use Rattle.typed_programs.specs.Layout.{procedures};
 ghost use Rattle.rev_syntax.specs.Trees.{no_statements};
 ghost use Rattle.rev_syntax.specs.View.{declaration, parameter, stmts};
-ghost use Rattle.merge_decl.specs.Definitions.{names_of};
+ghost use Rattle.typed_programs.specs.Definitions.{names_of};
 ghost use Rattle.revision_calculus.specs.Program.{procedure_named};
 ghost use Rattle.revision_calculus.specs.Evaluation as evaluation;
 ghost use Rattle.revision_calculus.specs.Step as step;
@@ -19,10 +19,10 @@ use crate::locals::Locals;
 use crate::setting::Setting;
 use rev_num::{Cause, Value};
 use rev_syntax::{Decl, Param, Stmt};
-use rev_types::SharedInfo;
 use revision_data::place;
 use std::alloc::{AllocError, Global};
 use std::rc::Rc;
+use typed_programs::SharedInfo;
 
 /// A procedure: its parameters and its body, with the table of the names of its locals.
 #[derive(Clone, Copy, Drop)]
@@ -41,7 +41,7 @@ impl<'a> Setting<'a> {
     }
 
     /// The declaration of this number.
-    #[tactic(auto, using(merge_decl::proofs::Declared::slice_get_mapped))]
+    #[tactic(auto, using(typed_programs::proofs::Declared::slice_get_mapped))]
     fn declared(&self, number: u32) -> Option<&'a Decl>
         ensures { option_map declaration (option_copied result)
             ≡ slice_get (given self.now).program.declarations number }

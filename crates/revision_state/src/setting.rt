@@ -2,15 +2,15 @@
 
 ghost use Rattle.std.specs.Prelude.{◌≡◌, ◌<◌, ℕ, Some, length, slice_get};
 ghost use Rattle.rev_syntax.specs.View.{program as whole};
-ghost use Rattle.merge_decl.specs.Names as names;
-ghost use Rattle.merge_decl.specs.Table.{find};
-ghost use Rattle.rev_types.specs.Layout as layout;
+ghost use Rattle.name_tables.specs.Names as names;
+ghost use Rattle.name_tables.specs.Table.{find};
+ghost use Rattle.typed_programs.specs.Layout as layout;
 ghost use Rattle.revision_calculus.specs.Join.{merges_of};
 ghost use Rattle.revision_state.specs.Tables.{info_of, number_of};
 
 use crate::bodies::Bodies;
-use merge_decl::NameTable;
-use rev_types::{SharedInfo, Typed};
+use name_tables::NameTable;
+use typed_programs::{SharedInfo, Typed};
 
 /// A typed program with the input numbers and the most fuel that a fork gives to its child.
 #[derive(Drop)]

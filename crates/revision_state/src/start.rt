@@ -3,7 +3,7 @@
 ghost use Rattle.std.specs.Prelude.{◌≡◌, ◌++◌, IfOk, OnOk, option_copied, option_map};
 ghost use Rattle.std.specs.Prelude.{replicate};
 ghost use Rattle.rev_syntax.specs.View.{constant, declaration, program as whole};
-ghost use Rattle.rev_types.specs.Layout.{variables};
+ghost use Rattle.typed_programs.specs.Layout.{variables};
 ghost use Rattle.revision_calculus.specs.Program as program;
 ghost use Rattle.revision_calculus.specs.State.{fresh};
 ghost use Rattle.revision_calculus.specs.Calculus.{start_values};
@@ -12,9 +12,9 @@ ghost use Rattle.revision_state.specs.Tables.{start_of, starts_in};
 use crate::tables::declared;
 use rev_num::{Value, ValueKind};
 use rev_syntax::{Const, Decl};
-use rev_types::{SharedInfo, Typed};
 use revision_data::Location;
 use std::alloc::{AllocError, Global};
+use typed_programs::{SharedInfo, Typed};
 
 /// The start value of a shared variable without a constant.
 fn zero_value(kind: ValueKind) -> Value

@@ -3,9 +3,9 @@
 ghost use Rattle.std.specs.Prelude.{◌≡◌, ◌++◌, [], IfOk, OnOk, option_copied, option_map};
 ghost use Rattle.std.specs.Prelude.{replicate, slice_get};
 ghost use Rattle.rev_syntax.specs.View.{declaration, program as whole};
-ghost use Rattle.merge_decl.specs.Names as names;
-ghost use Rattle.merge_decl.specs.Table.{find};
-ghost use Rattle.rev_types.specs.Layout as layout;
+ghost use Rattle.name_tables.specs.Names as names;
+ghost use Rattle.name_tables.specs.Table.{find};
+ghost use Rattle.typed_programs.specs.Layout as layout;
 ghost use Rattle.revision_calculus.specs.Join.{merges_of};
 ghost use Rattle.revision_state.specs.Tables.{entered, info_of, merges_in, number_of, proc_at};
 ghost use Rattle.revision_state.specs.Tables.{proc_name, shared_at, shared_name, with_row};
@@ -13,13 +13,13 @@ ghost use Rattle.revision_state.specs.Views.{given};
 
 use crate::bodies::Bodies;
 use crate::setting::Setting;
-use merge_decl::NameTable;
+use name_tables::NameTable;
 use rev_syntax::Decl;
-use rev_types::{SharedInfo, Typed};
 use std::alloc::{AllocError, Global};
+use typed_programs::{SharedInfo, Typed};
 
 /// The declaration of this number.
-#[tactic(auto, using(merge_decl::proofs::Declared::slice_get_mapped))]
+#[tactic(auto, using(typed_programs::proofs::Declared::slice_get_mapped))]
 pub fn declared(typed: &Typed, number: u32) -> Option<&Decl>
     ensures { option_map declaration (option_copied result)
         ≡ slice_get (whole typed.now.expanded.program).declarations number }

@@ -1,7 +1,7 @@
 -- Answers that are collected one by one.
 use Rattle.std.proofs.Common.{◌≡◌, List, [], ◌∷◌, ◌++◌, Result, Ok, Err, refl, sym, ap, append_assoc, append-nil}
 use Rattle.rev_num.specs.declared.outcome.Cause.{Cause}
-use Rattle.merge_decl.specs.Value.{and_then}
+use Rattle.typed_programs.specs.Value.{and_then}
 use Rattle.revision_data.specs.Reading.{prefixed}
 
 pub one_more : {A : Type 0} (xs : List A) (y : A) (rest : Result (List A) Cause)

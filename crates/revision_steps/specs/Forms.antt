@@ -4,8 +4,8 @@ use Rattle.rev_num.specs.Path.{Path}
 use Rattle.rev_num.specs.declared.outcome.Cause.TheVariants as cause
 use Rattle.rev_syntax.specs.Trees.{Expression, Expressions, PrintItem, Statement, Statements, no_statements, statements, Arms}
 use Rattle.revision_machine.specs.Machine.{Event, Moves}
-use Rattle.merge_decl.specs.Names.{Name}
-use Rattle.merge_decl.specs.Value.{and_then, truth_of, number_of}
+use Rattle.name_tables.specs.Names.{Name}
+use Rattle.typed_programs.specs.Value.{and_then, truth_of, number_of}
 use Rattle.revision_calculus.specs.Program.{Setting}
 use Rattle.revision_calculus.specs.State.{write_at, Local}
 use Rattle.revision_calculus.specs.Evaluation.{eval, evals, set, cell_location}

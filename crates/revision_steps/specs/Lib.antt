@@ -2,4 +2,3 @@
 pub mod Texts
 pub mod Owns
 pub mod Forms
-pub mod Ends

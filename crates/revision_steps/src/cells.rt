@@ -2,7 +2,7 @@
 
 ghost use Rattle.std.specs.Prelude.{◌≡◌, IfOk};
 ghost use Rattle.rev_syntax.specs.View.{expression};
-ghost use Rattle.merge_decl.specs.Value as value;
+ghost use Rattle.typed_programs.specs.Value as value;
 ghost use Rattle.revision_machine.specs.Machine.{Moves};
 ghost use Rattle.revision_calculus.specs.State as state;
 ghost use Rattle.revision_calculus.specs.Step as step;

@@ -2,8 +2,8 @@
 
 ghost use Rattle.std.specs.Prelude.{◌≡◌, IfOk, Ok, option_copied};
 ghost use Rattle.rev_syntax.specs.View.{expression, expressions};
-ghost use Rattle.merge_decl.specs.Table.{find};
-ghost use Rattle.merge_decl.specs.Value as spec;
+ghost use Rattle.name_tables.specs.Table.{find};
+ghost use Rattle.typed_programs.specs.Value as spec;
 ghost use Rattle.rev_evaluator.specs.Seen.{answer, seen};
 ghost use Rattle.revision_calculus.specs.State as state;
 ghost use Rattle.revision_calculus.specs.Evaluation as evaluation;
@@ -11,13 +11,13 @@ ghost use Rattle.revision_data.specs.Reading.{listed, shared_at};
 ghost use Rattle.revision_state.specs.Views.{given};
 
 use crate::local::Local;
-use rev_evaluator::{Environment, Seen, evaluate};
+use rev_evaluator::{Environment, Seen, evaluate, owned, seen_of};
 use rev_num::{Cause, Value};
 use rev_syntax::{Expr, Name};
-use rev_types::SharedInfo;
-use revision_data::{owned, place, seen_of, value_at};
+use revision_data::{place, value_at};
 use revision_state::Setting;
 use std::alloc::{AllocError, Global};
+use typed_programs::SharedInfo;
 
 impl<'a> Local<'a> {
     /// What the revision sees at this location; the number 0 where there is none.

@@ -2,7 +2,7 @@
 
 ghost use Rattle.std.specs.Prelude.{◌≡◌, ◌+◌, ◌<◌, ◌≤◌, ◌^◌, IfOk, OnOk, option_copied};
 ghost use Rattle.rev_syntax.specs.View.{expressions};
-ghost use Rattle.rev_types.specs.Layout.{procedures};
+ghost use Rattle.typed_programs.specs.Layout.{procedures};
 ghost use Rattle.revision_calculus.specs.Program.{procedure_named};
 ghost use Rattle.revision_calculus.specs.Step as step;
 ghost use Rattle.revision_steps.specs.Forms as form;

@@ -1,16 +1,16 @@
 //! The join of a revision that has ended.
 
 ghost use Rattle.std.specs.Prelude.{◌≡◌, ◌+◌, ◌<◌, ◌^◌, OnOk, option_copied};
-ghost use Rattle.rev_types.specs.Layout.{variables};
+ghost use Rattle.typed_programs.specs.Layout.{variables};
 ghost use Rattle.rev_num.specs.declared.outcome.Cause.TheVariants as cause;
 ghost use Rattle.revision_calculus.specs.State as state;
 ghost use Rattle.revision_calculus.specs.Join as join;
-ghost use Rattle.revision_data.specs.Changes.{put};
+ghost use Rattle.joined_locations.specs.Changes.{put};
 ghost use Rattle.revision_state.specs.Views.{given};
 
 use crate::local::Local;
+use joined_locations::{FaultedMerge, compose, write_all};
 use rev_num::{Cause, Path, Trap, Value};
-use revision_data::{FaultedMerge, compose, write_all};
 use revision_state::{ForkOrJoin, Phase, Setting};
 use std::alloc::{AllocError, Global};
 

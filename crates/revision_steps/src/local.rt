@@ -8,7 +8,7 @@ ghost use Rattle.revision_calculus.specs.Step as step;
 ghost use Rattle.revision_calculus.specs.Evaluation as evaluation;
 ghost use Rattle.revision_state.specs.Phases as phases;
 ghost use Rattle.revision_state.specs.Phases.{IsEnded, awaited, trap_in};
-ghost use Rattle.revision_steps.specs.Ends.{ended_with, phase_of};
+ghost use Rattle.revision_state.specs.Ends.{ended_with, phase_of};
 ghost use Rattle.revision_steps.specs.Owns.{own_event};
 ghost use Rattle.revision_state.specs.Views.{given};
 

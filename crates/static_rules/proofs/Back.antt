@@ -2,16 +2,16 @@
 use Rattle.std.proofs.Common.{◌≡◌, inl, inr, ℕ, ◌+◌, ◌-◌, Option, Some, None, List, [], ◌∷◌, sym, subst, arith}
 use Rattle.rev_num.specs.declared.value.ValueKind.{ValueKind}
 use Rattle.rev_syntax.specs.Trees.{PlacedName, Expression, Expressions, RightSide, plain, called, forked, tried, PrintItem, text, shown, Statement, StatementForm, bind, assign, assign_cell, choose, choose_or, repeat, call, return, fork, join, print, assert, Statements, no_statements, statements, Arms, no_arms, arm}
-use Rattle.merge_decl.specs.Least.{Among}
-use Rattle.rev_kinds.specs.Kinds.{Names, Locals}
+use Rattle.typed_programs.specs.Least.{Among}
+use Rattle.typed_programs.specs.Kinds.{Names, Locals}
 use Rattle.rev_report.specs.Limits.{first_past}
 use Rattle.rev_report.specs.declared.limit.Limit.TheVariants as limits
-use Rattle.rev_kinds.specs.Rules as r
-use Rattle.rev_kinds.proofs.Typings.{All, one, app}
-use Rattle.rev_types.specs.Statements as s
-use Rattle.rev_types.specs.Scopes as scopes
-use Rattle.rev_types.specs.Limits.{statements_lets}
-use Rattle.rev_types.proofs.StatementsWithin.{statements_left}
+use Rattle.typed_programs.specs.Rules as r
+use Rattle.typed_programs.proofs.Typings.{All, one, app}
+use Rattle.typed_programs.specs.Statements as s
+use Rattle.typed_programs.specs.Scopes as scopes
+use Rattle.typed_programs.specs.Limits.{statements_lets}
+use Rattle.typed_programs.proofs.StatementsWithin.{statements_left}
 use Rattle.static_rules.specs.Places.{ArmOf, first_arm, later_arm, right_side_expressions, item_expressions, arm_expressions, statement_form_expressions, right_side_of, right_side_call, call_of, arms_of}
 use Rattle.static_rules.proofs.Gathers.{Is, In, in_left, in_right_side, in_app, not_some, some_is}
 use Rattle.static_rules.proofs.Expressions.{arg_expression_in, same_expression}

@@ -3,24 +3,24 @@ use Rattle.std.proofs.Common.{◌≡◌, ◌∙◌, inl, inr, ℕ, ◌+◌, ◌-
 use Rattle.rev_num.specs.declared.value.ValueKind.{ValueKind}
 use Rattle.rev_num.specs.declared.value.ValueKind.TheVariants as k
 use Rattle.rev_syntax.specs.Trees.{PlacedName, Parameter, Expression, Expressions, RightSide, plain, called, forked, tried, PrintItem, text, shown, Statement, statement, StatementForm, bind, assign, assign_cell, choose, choose_or, repeat, call, return, fork, join, print, assert, Statements, no_statements, statements, Arms, no_arms, arm, ProgramTree}
-use Rattle.merge_decl.specs.FunRules.{count}
-use Rattle.merge_decl.specs.Least.{Among}
-use Rattle.merge_decl.specs.Table.{find}
+use Rattle.typed_programs.specs.FunRules.{count}
+use Rattle.typed_programs.specs.Least.{Among}
+use Rattle.name_tables.specs.Table.{find}
 use Rattle.rev_report.specs.declared.limit.Limit.TheVariants as limits
-use Rattle.rev_kinds.specs.declared.fault.TypeFault.{TypeFault}
-use Rattle.rev_kinds.specs.declared.fault.TypeFault.TheVariants.{Redeclared}
-use Rattle.rev_kinds.specs.declared.names.Holder.{Holder}
+use Rattle.typed_programs.specs.declared.fault.TypeFault.{TypeFault}
+use Rattle.typed_programs.specs.declared.fault.TypeFault.TheVariants.{Redeclared}
+use Rattle.typed_programs.specs.declared.names.Holder.{Holder}
 use Rattle.rev_report.specs.Limits.{first_past}
-use Rattle.rev_kinds.specs.Faults.{exceeded}
-use Rattle.rev_kinds.specs.Kinds.{Callee, kind_in, name_kind, right_side_kind, right_side_place, expression_place}
-use Rattle.rev_kinds.specs.Rules as r
-use Rattle.rev_kinds.proofs.Lists.{unequal}
-use Rattle.rev_kinds.proofs.Typings.{All, one, app}
-use Rattle.rev_types.specs.Statements as s
-use Rattle.rev_types.specs.Scopes as scopes
-use Rattle.rev_types.specs.Limits.{statement_lets, statements_lets, arms_lets}
-use Rattle.rev_types.proofs.StatementsFaults.{AllAre, all_none, all_both, all_at}
-use Rattle.rev_types.proofs.StatementsWithin.{statements_left}
+use Rattle.typed_programs.specs.Faults.{exceeded}
+use Rattle.typed_programs.specs.Kinds.{Callee, kind_in, name_kind, right_side_kind, right_side_place, expression_place}
+use Rattle.typed_programs.specs.Rules as r
+use Rattle.typed_programs.proofs.Lists.{unequal}
+use Rattle.typed_programs.proofs.Typings.{All, one, app}
+use Rattle.typed_programs.specs.Statements as s
+use Rattle.typed_programs.specs.Scopes as scopes
+use Rattle.typed_programs.specs.Limits.{statement_lets, statements_lets, arms_lets}
+use Rattle.typed_programs.proofs.StatementsFaults.{AllAre, all_none, all_both, all_at}
+use Rattle.typed_programs.proofs.StatementsWithin.{statements_left}
 use Rattle.static_rules.specs.Places.{IsBehind, Site, ArmOf, first_arm, later_arm, Lies, next, in_arm, in_else, Stands, Occurs, in_statement_form, written, written_cell, tested, asserted, joined, try_joined, returned, written_at, written_value, call_argument, printed, Wanted, expressions_of, right_side_expressions, item_expressions, arm_expressions, right_side_of, right_side_call, call_of}
 use Rattle.static_rules.specs.Breaks.{Breaks, unknown_procedure, let_again, other_kind, other_right_side, no_result, return_without, return_with, other_count, local_let, too_many_items}
 use Rattle.static_rules.proofs.Gathers.{not_none, given_by, all_one, all_unless, all_alike}

@@ -7,31 +7,31 @@ use Rattle.rev_num.specs.declared.value.ValueKind.TheVariants as k
 use Rattle.rev_num.specs.Value.{kind_of, same_kind}
 use Rattle.rev_num.proofs.SameKinds.{same_kind_is}
 use Rattle.rev_syntax.specs.Trees.{PlacedName, Parameter, ArraySize, Constant, SharedDeclaration, Expression, Statements, Declaration, fun, merge, shared, proc, ProgramTree}
-use Rattle.merge_decl.specs.Least.{Among}
-use Rattle.merge_decl.specs.Names.{Name}
-use Rattle.merge_decl.specs.Table.{find, added}
-use Rattle.merge_decl.specs.Weights.{expression_weight, weights_after}
-use Rattle.merge_decl.proofs.Firsts.{last_among}
+use Rattle.typed_programs.specs.Least.{Among}
+use Rattle.name_tables.specs.Names.{Name}
+use Rattle.name_tables.specs.Table.{find, added}
+use Rattle.typed_programs.specs.Weights.{expression_weight, weights_after}
+use Rattle.typed_programs.proofs.Firsts.{last_among}
 use Rattle.rev_report.specs.declared.limit.Limit.TheVariants as limits
 use Rattle.rev_report.specs.Limits.{first_past, most}
-use Rattle.rev_kinds.specs.declared.fault.TypeFault.{TypeFault}
-use Rattle.rev_kinds.specs.declared.fault.TypeFault.TheVariants.{Redeclared}
-use Rattle.rev_kinds.specs.declared.names.Holder.{Holder}
-use Rattle.rev_kinds.specs.Faults.{exceeded}
-use Rattle.rev_kinds.specs.Kinds.{Names, Locals}
-use Rattle.rev_kinds.proofs.Lists.{equal, known_added, known_more}
-use Rattle.rev_kinds.proofs.Typings.{All, one, app}
-use Rattle.rev_types.specs.Statements as s
-use Rattle.rev_types.specs.Scopes as scopes
-use Rattle.rev_types.specs.Program as d
-use Rattle.rev_types.specs.Judgement.{name_of, word_of}
-use Rattle.rev_types.specs.Limits.{cells, procs, funs}
-use Rattle.rev_types.proofs.StatementsFaults.{AllAre, all_none, all_both, all_when, all_at}
-use Rattle.rev_types.proofs.Weights.{expression_caps}
+use Rattle.typed_programs.specs.declared.fault.TypeFault.{TypeFault}
+use Rattle.typed_programs.specs.declared.fault.TypeFault.TheVariants.{Redeclared}
+use Rattle.typed_programs.specs.declared.names.Holder.{Holder}
+use Rattle.typed_programs.specs.Faults.{exceeded}
+use Rattle.typed_programs.specs.Kinds.{Names, Locals}
+use Rattle.typed_programs.proofs.Lists.{equal, known_added, known_more}
+use Rattle.typed_programs.proofs.Typings.{All, one, app}
+use Rattle.typed_programs.specs.Statements as s
+use Rattle.typed_programs.specs.Scopes as scopes
+use Rattle.typed_programs.specs.Program as d
+use Rattle.typed_programs.specs.Judgement.{name_of, word_of}
+use Rattle.typed_programs.specs.Limits.{cells, procs, funs}
+use Rattle.typed_programs.proofs.StatementsFaults.{AllAre, all_none, all_both, all_when, all_at}
+use Rattle.typed_programs.proofs.Weights.{expression_caps}
 use Rattle.static_rules.specs.Places.{IsBehind, Declares, in_fun, in_merge, fun_body, merge_body, fun_value, in_proc, in_main, parameter_word}
 use Rattle.static_rules.specs.Breaks.{Breaks, IsFun, unknown_merge, declared_again, parameter_again, parameter_of_shared, other_constant, cumulative_kind, fun_parameter, fun_result, no_cells, no_return, locations, procedures, declared_funs, parameters, local_parameter, too_heavy}
-use Rattle.rev_types.proofs.Returning.{ends_return}
-use Rattle.rev_types.proofs.DeclsWithin.{params_left as left_params}
+use Rattle.typed_programs.proofs.Returning.{ends_return}
+use Rattle.typed_programs.proofs.DeclsWithin.{params_left as left_params}
 use Rattle.static_rules.proofs.Gathers.{all_one, all_unless, not_none, differ}
 use Rattle.static_rules.proofs.Expressions.{wanted_all, handle_all, expression_all}
 use Rattle.static_rules.proofs.Blocks.{among_behind, among_at, behind_by, further, last_left, longer, statements_all}

@@ -1,19 +1,19 @@
 -- The faults of declarations, from where they stand.
 use Rattle.std.proofs.Common.{◌≡◌, ◌∙◌, inl, inr, ℕ, ◌+◌, ◌-◌, min, true, is_some, List, [], ◌∷◌, ◌++◌, refl, sym, ap, subst, arith}
 use Rattle.rev_syntax.specs.Trees.{Declaration, fun, merge, shared, proc}
-use Rattle.merge_decl.specs.Least.{Among}
-use Rattle.merge_decl.specs.Names.{Name}
-use Rattle.merge_decl.specs.Table.{Table, find, added}
-use Rattle.merge_decl.specs.Weights.{expression_weight, weights_with, weights_after}
-use Rattle.rev_kinds.proofs.Lists.{known_added, known_more}
-use Rattle.rev_types.specs.Program as d
-use Rattle.rev_types.specs.Judgement.{name_of, IsMergeOf}
-use Rattle.rev_types.specs.Limits.{cells, procs, funs}
-use Rattle.rev_types.proofs.Weights.{Caps, none_caps, added_caps, expression_caps}
+use Rattle.typed_programs.specs.Least.{Among}
+use Rattle.name_tables.specs.Names.{Name}
+use Rattle.name_tables.specs.Table.{Table, find, added}
+use Rattle.typed_programs.specs.Weights.{expression_weight, weights_with, weights_after}
+use Rattle.typed_programs.proofs.Lists.{known_added, known_more}
+use Rattle.typed_programs.specs.Program as d
+use Rattle.typed_programs.specs.Judgement.{name_of, IsMergeOf}
+use Rattle.typed_programs.specs.Limits.{cells, procs, funs}
+use Rattle.typed_programs.proofs.Weights.{Caps, none_caps, added_caps, expression_caps}
 use Rattle.static_rules.proofs.Blocks.{among_behind, further}
-use Rattle.rev_types.proofs.Layouts.{cells_behind}
-use Rattle.merge_decl.proofs.Firsts.{last_among}
-pub use Rattle.merge_decl.proofs.Firsts.{left_among as in_front}
+use Rattle.typed_programs.proofs.Layouts.{cells_behind}
+use Rattle.typed_programs.proofs.Firsts.{last_among}
+pub use Rattle.typed_programs.proofs.Firsts.{left_among as in_front}
 pub use Rattle.rev_num.proofs.Lists.{false_no as none_there}
 
 -- ---- lists

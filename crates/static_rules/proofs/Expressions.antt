@@ -5,13 +5,13 @@ use Rattle.rev_num.specs.declared.value.ValueKind.{ValueKind}
 use Rattle.rev_num.specs.declared.value.ValueKind.TheVariants as k
 use Rattle.rev_syntax.specs.Trees.{PlacedName, Parameter, Expression, placed, ExpressionForm, Expressions, Links, int, bool, no_rev, var, cell, apply, input, inputs, pick, unary, chain, no_expressions, expression, no_links, link, ProgramTree}
 use Rattle.rev_syntax.specs.declared.tree.BinaryOp.{BinaryOp}
-use Rattle.merge_decl.specs.FunRules.{count}
-use Rattle.merge_decl.specs.Least.{Among}
-use Rattle.merge_decl.specs.Table.{find}
-use Rattle.rev_kinds.specs.Kinds.{Names, Locals, kind_in, operand_kind, expression_place}
-use Rattle.rev_kinds.specs.Rules as r
-use Rattle.rev_kinds.proofs.Typings.{All, one, app}
-use Rattle.rev_types.proofs.StatementsFaults.{AllAre, all_none, all_both, all_when}
+use Rattle.typed_programs.specs.FunRules.{count}
+use Rattle.typed_programs.specs.Least.{Among}
+use Rattle.name_tables.specs.Table.{find}
+use Rattle.typed_programs.specs.Kinds.{Names, Locals, kind_in, operand_kind, expression_place}
+use Rattle.typed_programs.specs.Rules as r
+use Rattle.typed_programs.proofs.Typings.{All, one, app}
+use Rattle.typed_programs.proofs.StatementsFaults.{AllAre, all_none, all_both, all_when}
 use Rattle.static_rules.specs.Places.{Occurs, in_part, Uses, read, read_cell, Wanted, fun_argument, at_index, at_position, picked_by, picked_last, operand, on_left, on_right, compared, NoHandle, compared_first, expressions_of, links_of, parts_of}
 use Rattle.static_rules.specs.Breaks.{Breaks, unknown_variable, other_kind, is_handle, other_use, input_inside, inputs_inside}
 use Rattle.static_rules.proofs.Gathers.{Is, In, in_left, in_right_side, not_some, some_is, given_by, all_wants, all_alike, all_not_rev, all_fits, all_left, all_right_side, all_scalar, all_array}

@@ -2,20 +2,20 @@
 use Rattle.std.proofs.Common.{◌≡◌, ◌∙◌, ◌⊎◌, inl, inr, ℕ, ◌<◌, ◌≤◌, cond, nat_eq, Option, Some, None, List, [], ◌∷◌, refl, sym, ap, subst, arith}
 use Rattle.rev_syntax.specs.Trees.{ProgramTree}
 use Rattle.rev_syntax.specs.Small.{IsSmall}
-use Rattle.merge_decl.specs.FunRules.{fun_faults}
-use Rattle.merge_decl.specs.FunRules as funs
-use Rattle.merge_decl.specs.declared.expand.MergeFault.{MergeFault}
-use Rattle.merge_decl.specs.declared.expand.MergeFault.TheVariants as fun
-use Rattle.merge_decl.specs.Least.{IsFirst, Among, least}
-use Rattle.merge_decl.proofs.Leasts.{first_is, none_is}
+use Rattle.typed_programs.specs.FunRules.{fun_faults}
+use Rattle.typed_programs.specs.FunRules as funs
+use Rattle.typed_programs.specs.declared.fun_fault.MergeFault.{MergeFault}
+use Rattle.typed_programs.specs.declared.fun_fault.MergeFault.TheVariants as fun
+use Rattle.typed_programs.specs.Least.{IsFirst, Among, least}
+use Rattle.typed_programs.proofs.Leasts.{first_is, none_is}
 use Rattle.rev_report.specs.declared.limit.Limit.{Limit}
 use Rattle.rev_report.specs.declared.limit.Limit.TheVariants.{Locations, Procedures, Funs, Parameters, Locals, Items, Weight}
-use Rattle.rev_kinds.specs.declared.fault.TypeFault.{TypeFault}
-use Rattle.rev_kinds.specs.declared.fault.TypeFault.TheVariants.{UnknownName, Redeclared, WrongType, WrongCount, NoReturn, LimitOf, OutOfMemory}
-use Rattle.rev_kinds.specs.Faults.{place, rank, HasLimit, exceeded}
-use Rattle.rev_types.specs.Program.{faults}
-use Rattle.rev_types.specs.Accepted.{IsWellTyped}
-use Rattle.rev_types.proofs.Accepting.{well_typed, accepts}
+use Rattle.typed_programs.specs.declared.fault.TypeFault.{TypeFault}
+use Rattle.typed_programs.specs.declared.fault.TypeFault.TheVariants.{UnknownName, Redeclared, WrongType, WrongCount, NoReturn, LimitOf, OutOfMemory}
+use Rattle.typed_programs.specs.Faults.{place, rank, HasLimit, exceeded}
+use Rattle.typed_programs.specs.Program.{faults}
+use Rattle.typed_programs.specs.Accepted.{IsWellTyped}
+use Rattle.typed_programs.proofs.Accepting.{well_typed, accepts}
 use Rattle.rev_types.proofs.OwnLimits.{own_limits}
 use Rattle.static_rules.specs.Front.{Outcome, of_funs, accepted, of_types, fault_in}
 use Rattle.static_rules.specs.Breaks.{BreaksNone, IsFirstBroken}

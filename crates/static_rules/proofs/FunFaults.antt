@@ -4,13 +4,13 @@ use Rattle.std.proofs.lemmas.Bool.Decides.{nat_tests}
 use Rattle.std.specs.Cmp.Lexicographic.{same_text, other_text}
 use Rattle.rev_num.specs.declared.value.ValueKind.{ValueKind}
 use Rattle.rev_syntax.specs.Trees.{PlacedName, Parameter, Expression, Declaration, fun, merge, shared, proc, ProgramTree}
-use Rattle.merge_decl.specs.Names.{Name, same}
-use Rattle.merge_decl.specs.FunRules.{Use, count, uses_in, first_fun, fun_named, later_here, arity_here, broken_by, broken_in, fun_faults}
-use Rattle.merge_decl.specs.Least.{Among}
-use Rattle.merge_decl.specs.declared.expand.FunHead.{FunHead}
-use Rattle.merge_decl.specs.declared.expand.MergeFault.{MergeFault}
-use Rattle.merge_decl.specs.declared.expand.MergeFault.TheVariants.{UnknownFun, LaterFun, Arity}
-use Rattle.rev_kinds.proofs.Lists.{equal, unequal}
+use Rattle.name_tables.specs.Names.{Name, same}
+use Rattle.typed_programs.specs.FunRules.{Use, count, uses_in, first_fun, fun_named, later_here, arity_here, broken_by, broken_in, fun_faults}
+use Rattle.typed_programs.specs.Least.{Among}
+use Rattle.typed_programs.specs.declared.expanded.FunHead.{FunHead}
+use Rattle.typed_programs.specs.declared.fun_fault.MergeFault.{MergeFault}
+use Rattle.typed_programs.specs.declared.fun_fault.MergeFault.TheVariants.{UnknownFun, LaterFun, Arity}
+use Rattle.typed_programs.proofs.Lists.{equal, unequal}
 use Rattle.static_rules.specs.Funs.{IsFunOf, IsFirstFun, BreaksFun, unknown_fun, later_fun, other_arity}
 use Rattle.static_rules.specs.Laws.{SameFuns, SameFirstFun, FunsKept}
 use Rattle.static_rules.proofs.Blocks.{among_at, behind_by}

@@ -1,9 +1,9 @@
 -- The applications of a program are those of the list by which the funs are expanded.
 use Rattle.std.proofs.Common.{◌≡◌, inl, inr, ℕ, ◌+◌, Some, None, List, [], ◌∷◌, ◌++◌, map, length, refl, sym, subst, arith}
 use Rattle.rev_syntax.specs.Trees.{PlacedName, Expression, placed, ExpressionForm, Expressions, Links, int, bool, no_rev, var, cell, apply, input, inputs, pick, unary, chain, no_expressions, expression, no_links, link, RightSide, plain, called, forked, tried, PrintItem, text, shown, Statement, statement, StatementForm, bind, assign, assign_cell, choose, choose_or, repeat, call, return, fork, join, print, assert, Statements, no_statements, statements, Arms, no_arms, arm, Declaration, fun, merge, shared, proc, ProgramTree}
-use Rattle.merge_decl.specs.FunRules.{Use, count, expression_uses, expression_form_uses, expressions_uses, links_uses, right_side_uses, items_uses, statement_uses, statement_form_uses, statements_uses, arms_uses, declaration_uses, declarations_uses, uses_in}
-use Rattle.merge_decl.specs.Least.{Among}
-use Rattle.merge_decl.proofs.Firsts.{right_among as at_end}
+use Rattle.typed_programs.specs.FunRules.{Use, count, expression_uses, expression_form_uses, expressions_uses, links_uses, right_side_uses, items_uses, statement_uses, statement_form_uses, statements_uses, arms_uses, declaration_uses, declarations_uses, uses_in}
+use Rattle.typed_programs.specs.Least.{Among}
+use Rattle.typed_programs.proofs.Firsts.{right_among as at_end}
 use Rattle.static_rules.specs.Places.{IsBehind, Site, ArmOf, first_arm, later_arm, Lies, in_proc, in_main, next, in_arm, in_else, Stands, expressions_of, parts_of, right_side_expressions, item_expressions, arm_expressions, statement_form_expressions, arms_of, links_of}
 use Rattle.static_rules.specs.Funs.{Inside, itself, deeper, Applies, of_fun, of_merge, of_statement}
 use Rattle.static_rules.proofs.Blocks.{among_at, behind_by, behind_of, further, longer, no_arm}

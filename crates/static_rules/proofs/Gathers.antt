@@ -7,15 +7,15 @@ use Rattle.rev_num.proofs.SameKinds.{same_kind_is, same_kind_self}
 use Rattle.rev_syntax.specs.Trees.{PlacedName, Parameter}
 use Rattle.rev_syntax.specs.declared.tree.BinaryOp.{BinaryOp}
 use Rattle.rev_syntax.specs.declared.tree.BinaryOp.TheVariants as b
-use Rattle.merge_decl.specs.Least.{Among}
-use Rattle.merge_decl.proofs.Firsts.{left_among, right_among, among_split}
-use Rattle.rev_kinds.specs.declared.fault.TypeFault.{TypeFault}
-use Rattle.rev_kinds.specs.declared.fault.TypeFault.TheVariants.{UnknownName, WrongType}
-use Rattle.rev_kinds.specs.declared.names.Holder.{Holder}
-use Rattle.rev_kinds.specs.Kinds.{Callee, operands, compares}
-use Rattle.rev_kinds.specs.Rules as r
-use Rattle.rev_kinds.proofs.Typings.{All, one, app}
-use Rattle.rev_types.proofs.StatementsFaults.{AllAre, all_none, all_both, all_when}
+use Rattle.typed_programs.specs.Least.{Among}
+use Rattle.typed_programs.proofs.Firsts.{left_among, right_among, among_split}
+use Rattle.typed_programs.specs.declared.fault.TypeFault.{TypeFault}
+use Rattle.typed_programs.specs.declared.fault.TypeFault.TheVariants.{UnknownName, WrongType}
+use Rattle.typed_programs.specs.declared.names.Holder.{Holder}
+use Rattle.typed_programs.specs.Kinds.{Callee, operands, compares}
+use Rattle.typed_programs.specs.Rules as r
+use Rattle.typed_programs.proofs.Typings.{All, one, app}
+use Rattle.typed_programs.proofs.StatementsFaults.{AllAre, all_none, all_both, all_when}
 use Rattle.static_rules.specs.Breaks.{array_named}
 pub use Rattle.rev_num.proofs.Options.{some_same as some_is}
 

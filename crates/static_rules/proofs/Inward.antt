@@ -3,15 +3,15 @@ use Rattle.std.proofs.Common.{◌≡◌, ◌∙◌, inl, inr, ℕ, ◌+◌, ◌-
 use Rattle.std.specs.List.{zip}
 use Rattle.rev_num.specs.declared.value.ValueKind.{ValueKind}
 use Rattle.rev_syntax.specs.Trees.{tried, PlacedName, Parameter, Expression, Expressions, link, PrintItem, shown, statement, StatementForm, choose_or, assign, assign_cell, return, join, print, assert, Statements, Declaration, fun, merge, proc, ProgramTree}
-use Rattle.merge_decl.specs.Least.{Among}
-use Rattle.merge_decl.specs.Table.{find}
-use Rattle.rev_kinds.specs.Kinds.{Callee, Names, Locals, kind_in, name_kind, expression_place}
-use Rattle.rev_kinds.specs.Rules as r
-use Rattle.rev_kinds.proofs.Typings.{All, one, app}
-use Rattle.rev_types.specs.Statements as s
-use Rattle.rev_types.specs.Scopes as scopes
-use Rattle.rev_types.specs.Program as d
-use Rattle.rev_types.proofs.DeclsWithin.{params_left as left_params}
+use Rattle.typed_programs.specs.Least.{Among}
+use Rattle.name_tables.specs.Table.{find}
+use Rattle.typed_programs.specs.Kinds.{Callee, Names, Locals, kind_in, name_kind, expression_place}
+use Rattle.typed_programs.specs.Rules as r
+use Rattle.typed_programs.proofs.Typings.{All, one, app}
+use Rattle.typed_programs.specs.Statements as s
+use Rattle.typed_programs.specs.Scopes as scopes
+use Rattle.typed_programs.specs.Program as d
+use Rattle.typed_programs.proofs.DeclsWithin.{params_left as left_params}
 use Rattle.static_rules.specs.Places.{IsBehind, Declares, Site, Lies, in_proc, in_main, next, in_arm, in_else, Stands, Occurs, in_fun, in_merge, in_statement_form, in_part, Uses, read, read_cell, written, written_cell, Wanted, fun_body, merge_body, tested, asserted, joined, try_joined, returned, written_at, written_value, call_argument, fun_argument, at_index, at_position, picked_by, picked_last, operand, on_left, on_right, compared, NoHandle, fun_value, printed, compared_first, expressions_of}
 use Rattle.static_rules.proofs.Gathers.{Is, In, in_left, in_right_side, in_left_operand, in_left_handle, in_right_side_operand, in_right_side_alike}
 use Rattle.static_rules.proofs.Expressions.{arg_in, given_at, links_found, link_in, part_in}

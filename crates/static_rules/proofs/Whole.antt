@@ -5,31 +5,31 @@ use Rattle.rev_num.specs.declared.value.ValueKind.{ValueKind}
 use Rattle.rev_num.specs.declared.value.ValueKind.TheVariants as k
 use Rattle.rev_num.specs.Value.{kind_of, same_kind}
 use Rattle.rev_syntax.specs.Trees.{PlacedName, Parameter, SharedDeclaration, Expression, Expressions, called, PrintItem, text, shown, StatementForm, bind, assign, return, print, Statements, Declaration, fun, merge, shared, proc, ProgramTree}
-use Rattle.merge_decl.specs.FunRules.{count}
-use Rattle.merge_decl.specs.Least.{Among}
-use Rattle.merge_decl.specs.Table.{find, added}
-use Rattle.merge_decl.specs.Weights.{expression_weight, weights_after, declaration_weight}
+use Rattle.typed_programs.specs.FunRules.{count}
+use Rattle.typed_programs.specs.Least.{Among}
+use Rattle.name_tables.specs.Table.{find, added}
+use Rattle.typed_programs.specs.Weights.{expression_weight, weights_after, declaration_weight}
 use Rattle.rev_report.specs.declared.limit.Limit.TheVariants as limits
 use Rattle.rev_report.specs.Limits.{first_past, most}
-use Rattle.rev_kinds.specs.declared.fault.TypeFault.{TypeFault}
-use Rattle.rev_kinds.specs.declared.fault.TypeFault.TheVariants.{UnknownName, Redeclared, WrongType, WrongCount, NoReturn}
-use Rattle.rev_kinds.specs.declared.names.Holder.{Holder}
-use Rattle.rev_kinds.specs.Faults.{exceeded}
-use Rattle.rev_kinds.specs.Kinds.{Callee, Names, Locals, kind_in, name_kind, right_side_kind, right_side_place, expression_place, item_place}
-use Rattle.rev_kinds.specs.Rules as r
-use Rattle.rev_kinds.proofs.Lists.{is_equal, is_unequal, known_more}
-use Rattle.rev_kinds.proofs.Typings.{All, one, app}
-use Rattle.rev_types.specs.Statements as s
-use Rattle.rev_types.specs.Scopes as scopes
-use Rattle.rev_types.specs.Program as d
-use Rattle.rev_types.specs.Judgement.{name_of, word_of, IsMergeOf}
-use Rattle.rev_types.specs.Limits.{cells, procs, funs}
-use Rattle.rev_types.proofs.Weights.{expression_caps}
+use Rattle.typed_programs.specs.declared.fault.TypeFault.{TypeFault}
+use Rattle.typed_programs.specs.declared.fault.TypeFault.TheVariants.{UnknownName, Redeclared, WrongType, WrongCount, NoReturn}
+use Rattle.typed_programs.specs.declared.names.Holder.{Holder}
+use Rattle.typed_programs.specs.Faults.{exceeded}
+use Rattle.typed_programs.specs.Kinds.{Callee, Names, Locals, kind_in, name_kind, right_side_kind, right_side_place, expression_place, item_place}
+use Rattle.typed_programs.specs.Rules as r
+use Rattle.typed_programs.proofs.Lists.{is_equal, is_unequal, known_more}
+use Rattle.typed_programs.proofs.Typings.{All, one, app}
+use Rattle.typed_programs.specs.Statements as s
+use Rattle.typed_programs.specs.Scopes as scopes
+use Rattle.typed_programs.specs.Program as d
+use Rattle.typed_programs.specs.Judgement.{name_of, word_of, IsMergeOf}
+use Rattle.typed_programs.specs.Limits.{cells, procs, funs}
+use Rattle.typed_programs.proofs.Weights.{expression_caps}
 use Rattle.static_rules.specs.Places.{IsBehind, Declares, Site, Stands, parameter_word, param_words, parameters_of, call_of}
 use Rattle.static_rules.specs.Breaks.{Breaks, array_named, IsFun, parameters, unknown_variable, unknown_procedure, unknown_merge, declared_again, parameter_again, parameter_of_shared, let_again, other_kind, is_handle, other_right_side, other_constant, other_use, no_result, cumulative_kind, fun_parameter, fun_result, input_inside, inputs_inside, return_without, return_with, other_count, no_cells, no_return, locations, procedures, declared_funs, local_parameter, local_let, too_many_items, too_heavy}
 use Rattle.static_rules.specs.Laws.{Same}
-use Rattle.rev_types.proofs.Returning.{not_ending}
-use Rattle.rev_types.proofs.DeclsWithin.{params_left as left_params}
+use Rattle.typed_programs.proofs.Returning.{not_ending}
+use Rattle.typed_programs.proofs.DeclsWithin.{params_left as left_params}
 use Rattle.static_rules.proofs.Gathers.{Is, In, here, in_left, in_right_side, in_when, in_unless, in_wants, in_alike, in_not_rev, in_scalar_unknown, in_array_unknown, in_scalar_other, in_array_other, alike_kinds, not_alike}
 use Rattle.static_rules.proofs.Blocks.{behind_of, further}
 use Rattle.static_rules.proofs.Back.{right_side_in, call_in, items_found}

@@ -8,21 +8,21 @@ use Rattle.rev_num.specs.declared.value.ValueKind.{ValueKind}
 use Rattle.rev_num.specs.declared.value.ValueKind.TheVariants as k
 use Rattle.rev_num.specs.Value.{kind_of}
 use Rattle.rev_syntax.specs.Trees.{PlacedName, Parameter, ArraySize, Constant, SharedDeclaration, Expression, placed, Expressions, input, inputs, RightSide, called, PrintItem, StatementForm, bind, assign, return, print, Statements, Declaration, fun, merge, shared, proc, ProgramTree}
-use Rattle.merge_decl.specs.Least.{Among, IsFirstOf}
-use Rattle.merge_decl.specs.Table.{find}
-use Rattle.merge_decl.specs.Weights.{weights_after, declaration_weight}
+use Rattle.typed_programs.specs.Least.{Among, IsFirstOf}
+use Rattle.name_tables.specs.Table.{find}
+use Rattle.typed_programs.specs.Weights.{weights_after, declaration_weight}
 use Rattle.rev_report.specs.declared.limit.Limit.TheVariants as limits
-use Rattle.rev_kinds.specs.declared.fault.TypeFault.{TypeFault}
-use Rattle.rev_kinds.specs.declared.fault.TypeFault.TheVariants.{UnknownName, Redeclared, WrongType, WrongCount, NoReturn}
-use Rattle.rev_kinds.specs.declared.names.Holder.{Holder}
+use Rattle.typed_programs.specs.declared.fault.TypeFault.{TypeFault}
+use Rattle.typed_programs.specs.declared.fault.TypeFault.TheVariants.{UnknownName, Redeclared, WrongType, WrongCount, NoReturn}
+use Rattle.typed_programs.specs.declared.names.Holder.{Holder}
 use Rattle.rev_report.specs.Limits.{most}
-use Rattle.rev_kinds.specs.Faults.{exceeded, row}
-use Rattle.rev_kinds.specs.Kinds.{Callee, Names, Locals, kind_in, name_kind, right_side_kind, right_side_place, expression_place, item_place}
-use Rattle.rev_types.specs.Scopes.{outside, cells_of, size_cells}
-use Rattle.rev_types.specs.Judgement.{IsNew, IsMergeOf, word_of}
-use Rattle.rev_types.specs.Limits.{cells, procs, funs}
+use Rattle.typed_programs.specs.Faults.{exceeded, row}
+use Rattle.typed_programs.specs.Kinds.{Callee, Names, Locals, kind_in, name_kind, right_side_kind, right_side_place, expression_place, item_place}
+use Rattle.typed_programs.specs.Scopes.{outside, cells_of, size_cells}
+use Rattle.typed_programs.specs.Judgement.{IsNew, IsMergeOf, word_of}
+use Rattle.typed_programs.specs.Limits.{cells, procs, funs}
 use Rattle.static_rules.specs.Places.{IsBehind, Declares, Site, Stands, Occurs, Uses, Wanted, NoHandle, expressions_of, parameters_of, param_words, right_side_of, call_of}
-use Rattle.rev_types.specs.Judgement.{Ends}
+use Rattle.typed_programs.specs.Judgement.{Ends}
 
 -- whether a name is that of an array, if it is known
 abbrev pub array_named : Option (Option ValueKind) → Option Holder → Option Bool

@@ -7,8 +7,8 @@ use Rattle.rev_num.specs.declared.value.ValueKind.{ValueKind}
 use Rattle.rev_syntax.specs.Trees.{PlacedName, Parameter, Expression, placed, int, bool, var, inputs, chain, no_expressions, no_links, link, plain, called, shown, Statement, statement, bind, assign, repeat, call, return, print, no_statements, Declaration, fun, shared, proc, ProgramTree}
 use Rattle.rev_syntax.specs.declared.tree.BinaryOp.TheVariants as b
 use Rattle.rev_report.specs.declared.limit.Limit.TheVariants as limits
-use Rattle.rev_kinds.specs.declared.fault.TypeFault.TheVariants.{UnknownName, Redeclared, WrongType, WrongCount, NoReturn}
-use Rattle.rev_kinds.specs.Faults.{exceeded}
+use Rattle.typed_programs.specs.declared.fault.TypeFault.TheVariants.{UnknownName, Redeclared, WrongType, WrongCount, NoReturn}
+use Rattle.typed_programs.specs.Faults.{exceeded}
 use Rattle.static_rules.specs.Breaks.{IsFirstBroken}
 pub use Rattle.rev_syntax.specs.View.{statements_of as block_of}
 

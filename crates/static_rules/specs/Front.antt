@@ -4,9 +4,9 @@
 -- these stand in Laws.
 use Rattle.std.specs.Prelude.{◌≡◌, ◌⊎◌, Option, Some, None}
 use Rattle.rev_syntax.specs.Trees.{ProgramTree}
-use Rattle.merge_decl.specs.declared.expand.MergeFault.{MergeFault}
-use Rattle.rev_kinds.specs.declared.fault.TypeFault.{TypeFault}
-use Rattle.rev_types.specs.Accepted.{IsWellTyped}
+use Rattle.typed_programs.specs.declared.fun_fault.MergeFault.{MergeFault}
+use Rattle.typed_programs.specs.declared.fault.TypeFault.{TypeFault}
+use Rattle.typed_programs.specs.Accepted.{IsWellTyped}
 use Rattle.static_rules.specs.Breaks.{Breaks, IsFirstBroken}
 use Rattle.static_rules.specs.Funs.{IsFirstBrokenFun, KeepsFunRules}
 

@@ -6,11 +6,11 @@
 use Rattle.std.specs.Prelude.{◌≡◌, ◌≢◌, ℕ, ◌≤◌, List, length}
 use Rattle.rev_num.specs.declared.value.ValueKind.{ValueKind}
 use Rattle.rev_syntax.specs.Trees.{PlacedName, Parameter, Expression, placed, ExpressionForm, Expressions, apply, StatementForm, Declaration, fun, merge, ProgramTree}
-use Rattle.merge_decl.specs.Names.{Name}
-use Rattle.merge_decl.specs.Least.{Among, IsFirstOf}
-use Rattle.merge_decl.specs.FunRules.{row}
-use Rattle.merge_decl.specs.declared.expand.MergeFault.{MergeFault}
-use Rattle.merge_decl.specs.declared.expand.MergeFault.TheVariants.{UnknownFun, LaterFun, Arity}
+use Rattle.name_tables.specs.Names.{Name}
+use Rattle.typed_programs.specs.Least.{Among, IsFirstOf}
+use Rattle.typed_programs.specs.FunRules.{row}
+use Rattle.typed_programs.specs.declared.fun_fault.MergeFault.{MergeFault}
+use Rattle.typed_programs.specs.declared.fun_fault.MergeFault.TheVariants.{UnknownFun, LaterFun, Arity}
 use Rattle.static_rules.specs.Places.{IsBehind, Site, Stands, expressions_of, parts_of, statement_form_expressions}
 
 -- an expression itself, or a part of it

@@ -7,13 +7,13 @@
 use Rattle.std.specs.Prelude.{◌≡◌, ◌↔◌, []}
 use Rattle.rev_syntax.specs.Trees.{ProgramTree}
 use Rattle.rev_syntax.specs.Small.{IsSmall}
-use Rattle.merge_decl.specs.FunRules as funs
-use Rattle.merge_decl.specs.Least.{Among, IsFirst}
-use Rattle.merge_decl.specs.declared.expand.MergeFault.{MergeFault}
-use Rattle.rev_kinds.specs.declared.fault.TypeFault.{TypeFault}
-use Rattle.rev_kinds.specs.Faults.{place, rank}
-use Rattle.rev_types.specs.Program.{faults}
-use Rattle.rev_types.specs.Accepted.{IsWellTyped}
+use Rattle.typed_programs.specs.FunRules as funs
+use Rattle.typed_programs.specs.Least.{Among, IsFirst}
+use Rattle.typed_programs.specs.declared.fun_fault.MergeFault.{MergeFault}
+use Rattle.typed_programs.specs.declared.fault.TypeFault.{TypeFault}
+use Rattle.typed_programs.specs.Faults.{place, rank}
+use Rattle.typed_programs.specs.Program.{faults}
+use Rattle.typed_programs.specs.Accepted.{IsWellTyped}
 use Rattle.static_rules.specs.Breaks.{Breaks, BreaksNone, IsFirstBroken}
 use Rattle.static_rules.specs.Funs.{BreaksFun, IsFirstBrokenFun, KeepsFunRules}
 use Rattle.static_rules.specs.Front.{IsDecided, Outcome, fault_in}

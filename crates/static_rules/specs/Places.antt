@@ -11,11 +11,11 @@ use Rattle.rev_num.specs.declared.value.ValueKind.TheVariants as k
 use Rattle.rev_syntax.specs.Trees.{PlacedName, Parameter, Expression, placed, ExpressionForm, Expressions, Links, var, cell, apply, input, pick, unary, chain, no_expressions, expression, no_links, link, RightSide, plain, called, forked, tried, PrintItem, text, shown, Statement, statement, StatementForm, bind, assign, assign_cell, choose, choose_or, repeat, call, return, fork, join, print, assert, Statements, statements, Arms, no_arms, arm, Declaration, fun, merge, proc, ProgramTree}
 use Rattle.rev_syntax.specs.declared.tree.UnaryOp.{UnaryOp}
 use Rattle.rev_syntax.specs.declared.tree.BinaryOp.{BinaryOp}
-use Rattle.merge_decl.specs.Least.{Among}
-use Rattle.merge_decl.specs.Table.{find}
-use Rattle.rev_kinds.specs.Kinds.{Callee, Names, Locals, kind_in, name_kind, operand_kind, operands, compares}
-use Rattle.rev_types.specs.Scopes.{locals_after, outside, within, with_params, merge_locals}
-use Rattle.rev_types.specs.Limits.{statement_lets, statements_lets, arms_lets}
+use Rattle.typed_programs.specs.Least.{Among}
+use Rattle.name_tables.specs.Table.{find}
+use Rattle.typed_programs.specs.Kinds.{Callee, Names, Locals, kind_in, name_kind, operand_kind, operands, compares}
+use Rattle.typed_programs.specs.Scopes.{locals_after, outside, within, with_params, merge_locals}
+use Rattle.typed_programs.specs.Limits.{statement_lets, statements_lets, arms_lets}
 
 -- in a list this stands right behind these
 pub record IsBehind {A : Type 0} (before : List A) (x : A) (xs : List A) : Type 0 where

@@ -1,8 +1,8 @@
 //! Merges of programs that keep all rules, on three numbers.
 
 use case_tables::{CaseFault, Pieces, field, typed_of};
+use joined_locations::merged_value;
 use rev_num::NumFault;
-use revision_data::merged_value;
 use std::alloc::Global;
 
 /// What the last merge of the text gives for the joiner's value, the joinee's and the root's.

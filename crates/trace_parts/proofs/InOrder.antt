@@ -10,7 +10,7 @@ use Rattle.rev_num.specs.Path.{Path, same, before}
 use Rattle.rev_num.proofs.PostOrder.{same_refl, same-eq}
 use Rattle.rev_num.proofs.PostOrder.{before_trans, before_irrefl}
 use Rattle.rev_num.proofs.PostOrder.{before_total}
-use Rattle.merge_decl.specs.Least.{Among}
+use Rattle.typed_programs.specs.Least.{Among}
 use Rattle.revision_machine.specs.Laws.{IsIn, IsDistinct}
 use Rattle.revision_machine.proofs.Paths.{some_inj, apart-same, decide_same}
 use Rattle.trace_diagram.specs.declared.diagram.Part.{Part}

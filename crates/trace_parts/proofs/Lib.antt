@@ -1,4 +1,3 @@
--- Proofs of trace_parts: the parts of a trace: that of a revision by its local state, the places of locations,
--- and the order of parts.
+-- Proofs of trace_parts: writes by the places of the locations, and the order of parts.
 pub mod Changes
 pub mod InOrder

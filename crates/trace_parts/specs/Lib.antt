@@ -1,3 +1,2 @@
--- Definitions of trace_parts: the parts of a trace: that of a revision by its local state, the places of
--- locations, and the order of parts.
+-- Definitions of trace_parts: the part of a revision by the places of the locations, and the order of parts.
 pub mod PartOfRevision

@@ -1,4 +1,4 @@
-//! The parts of a trace: that of a revision by its local state, the places of the locations, and the
+//! What the parts of a trace are made of: the places of locations, ends and writes by these, and the
 //! order of parts.
 #![tactic(auto)]
 
@@ -7,5 +7,5 @@ mod parts;
 mod places;
 
 pub use order::put_in_order;
-pub use parts::{cause_place, part_of, place_at};
+pub use parts::{cause_place, changes_of, end_of, place_at};
 pub use places::{place_of, places_of};

@@ -1,44 +1,13 @@
-//! The part of a trace that a revision has, by its local state.
+//! How a revision ended and what it wrote, by the places of the locations.
 
-ghost use Rattle.std.specs.Prelude.{◌≡◌, ◌++◌, [], IfOk, OnOk, map, option_copied};
-ghost use Rattle.revision_state.specs.Phases as phases;
+ghost use Rattle.std.specs.Prelude.{◌≡◌, ◌++◌, [], IfOk, OnOk, option_copied};
 ghost use Rattle.audit_rules.specs.Parts as spec;
-ghost use Rattle.trace_parts.specs.PartOfRevision.{end_by, part_by};
+ghost use Rattle.trace_parts.specs.PartOfRevision.{end_by};
 
-use rev_num::{Bytes, Cause, Items, Path, Trap};
+use rev_num::{Bytes, Cause, Items, Trap};
 use revision_data::Location;
-use revision_state::ForkOrJoin;
-use revision_steps::Local;
 use std::alloc::{AllocError, Global};
-use trace_diagram::{Change, Part, PartEnd, TraceEvent};
-
-/// An entry of the list of forks and joins, as a trace has it.
-fn event_of(alloc: Global, noted: &ForkOrJoin) -> Result<TraceEvent, AllocError>
-    ensures { IfOk result (λ e. e ≡ spec.event_of (phases.noted noted.now)) }
-{
-    Ok(match noted {
-        ForkOrJoin::Forked { path, line } => TraceEvent::Forked {
-            child: path.copy(alloc)?,
-            line: *line,
-        },
-        ForkOrJoin::Joined { path, line } => TraceEvent::Joined {
-            on: path.copy(alloc)?,
-            line: *line,
-        },
-    })
-}
-
-/// The forks and joins, as a trace has them.
-fn events_of(alloc: Global, list: &[ForkOrJoin]) -> Result<Vec<TraceEvent>, AllocError>
-    ensures { IfOk result
-        (λ v. v.items ≡ map spec.event_of (map phases.noted list.now)) }
-{
-    let mut events = Vec::with_capacity(alloc, list.len())?;
-    for noted in list {
-        events.push(event_of(alloc, noted)?)?;
-    }
-    Ok(events)
-}
+use trace_diagram::{Change, PartEnd};
 
 /// The place of the location of this number, or nothing where there is none.
 pub fn place_at(alloc: Global, places: &[Bytes], number: u32) -> Result<Bytes, AllocError>
@@ -61,7 +30,7 @@ pub fn cause_place(alloc: Global, places: &[Bytes], cause: Cause) -> Result<Byte
 }
 
 /// How a revision ended that has this trap, or none.
-fn end_of(alloc: Global, places: &[Bytes], trap: Option<&Trap>) -> Result<PartEnd, AllocError>
+pub fn end_of(alloc: Global, places: &[Bytes], trap: Option<&Trap>) -> Result<PartEnd, AllocError>
     ensures { IfOk result (λ e. e ≡ end_by places.now (option_copied trap.entry)) }
 {
     match trap {
@@ -95,7 +64,7 @@ fn append_change(
 }
 
 /// The writes of these locations, which have these places.
-fn changes_of(
+pub fn changes_of(
     alloc: Global,
     places: &[Bytes],
     locations: &[Location],
@@ -107,29 +76,4 @@ fn changes_of(
         append_change(alloc, &mut changes, &places[n], &locations[n])?;
     }
     Ok(changes)
-}
-
-/// The part of the revision at this path, whose locations have these places. Its path is moved and
-/// not copied.
-pub fn part_of(
-    alloc: Global,
-    places: &[Bytes],
-    path: Path,
-    local: &Local<'_>,
-) -> Result<Part, AllocError>
-    ensures { IfOk result (λ p. p ≡ part_by places.now path local.now) }
-{
-    let events = Items::from_vec(events_of(alloc, local.noted())?);
-    let end = end_of(alloc, places, local.trap())?;
-    let fuel = local.fuel();
-    let written = Items::from_vec(changes_of(alloc, places, local.locations())?);
-    let text = Items::from_vec(local.text(alloc)?);
-    Ok(Part {
-        path,
-        events,
-        end,
-        fuel,
-        written,
-        text,
-    })
 }

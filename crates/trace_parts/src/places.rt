@@ -4,14 +4,14 @@ ghost use Rattle.std.specs.Prelude.{◌≡◌, ◌++◌, [], IfOk, OnOk, codes, 
 ghost use Rattle.std.specs.Fmt.{decimal};
 ghost use Rattle.rev_syntax.specs.View.{program as whole};
 ghost use Rattle.rev_report.specs.Outcome.{place_of};
-ghost use Rattle.rev_types.specs.Layout.{variables};
+ghost use Rattle.typed_programs.specs.Layout.{variables};
 ghost use Rattle.revision_calculus.specs.Outcome.{show_all};
 
 use itoa::Buffer;
 use rev_num::{Bytes, Items};
-use rev_types::Typed;
 use revision_data::shown_values;
 use std::alloc::{AllocError, Global};
+use typed_programs::Typed;
 
 /// Appends the number of a cell in brackets.
 fn append_cell(text: &mut Vec<u8>, cell: u32) -> Result<(), AllocError>

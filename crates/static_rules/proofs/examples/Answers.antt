@@ -1,11 +1,11 @@
 -- Answers of examples: the least fault in the checker's list is computed, and is the first that the program breaks.
 use Rattle.std.proofs.Common.{◌≡◌, Some, refl}
 use Rattle.rev_syntax.specs.Trees.{ProgramTree}
-use Rattle.merge_decl.specs.Least.{least}
-use Rattle.merge_decl.proofs.Leasts.{first_is}
-use Rattle.rev_kinds.specs.declared.fault.TypeFault.{TypeFault}
-use Rattle.rev_kinds.specs.Faults.{place, rank}
-use Rattle.rev_types.specs.Program.{faults}
+use Rattle.typed_programs.specs.Least.{least}
+use Rattle.typed_programs.proofs.Leasts.{first_is}
+use Rattle.typed_programs.specs.declared.fault.TypeFault.{TypeFault}
+use Rattle.typed_programs.specs.Faults.{place, rank}
+use Rattle.typed_programs.specs.Program.{faults}
 use Rattle.static_rules.specs.Breaks.{IsFirstBroken}
 use Rattle.static_rules.proofs.Fronts.{first_broken}
 use Rattle.static_rules.proofs.examples.Goals as goal

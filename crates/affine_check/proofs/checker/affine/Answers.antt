@@ -7,7 +7,7 @@ use Rattle.revision_calculus.proofs.FunKinds.{rules_kept}
 use Rattle.affine_check.specs.Affine.{IsAffine}
 use Rattle.affine_check.proofs.Paths.{affine_once}
 use Rattle.affine_check.proofs.Freedom.{never_twice}
-use Rattle.rev_types.specs.declared.typed.Typed.{Typed}
+use Rattle.typed_programs.specs.declared.typed.Typed.{Typed}
 use Rattle.affine_check.proofs.Decided.{keeps, refused}
 use Rattle.affine_check.proofs.checker.affine.Goals as goal
 

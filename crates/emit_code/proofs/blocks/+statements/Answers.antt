@@ -8,7 +8,7 @@ use Rattle.std.proofs.lemmas.Result.{on_ok_weaker}
 use Rattle.rev_syntax.specs.Trees as tree
 use Rattle.rev_syntax.specs.View.{arm as pair, arms, block, expression, statement_form}
 use Rattle.rev_syntax.specs.declared.tree.Arm.{out-Arm}
-use Rattle.rev_types.specs.Limits.{statements_lets, arms_lets}
+use Rattle.typed_programs.specs.Limits.{statements_lets, arms_lets}
 use Rattle.code_generation.specs.Expressions.{expression_size, expression_code}
 use Rattle.code_generation.specs.Sizes.{statements_size, statements_prints, arms_size, arms_prints}
 use Rattle.code_generation.specs.Statements.{statement_form_code, statements_code, arms_code}

@@ -1,7 +1,7 @@
 -- Loops of statements: what is written, with what the statements or arms left come to, is what all come to.
 use Rattle.std.proofs.Common.{◌≡◌, ◌≤◌, ◌+◌, ◌++◌, drop, take, length}
 use Rattle.rev_syntax.specs.View.{stmts, arms}
-use Rattle.rev_types.specs.Limits.{statements_lets, arms_lets}
+use Rattle.typed_programs.specs.Limits.{statements_lets, arms_lets}
 use Rattle.code_generation.specs.Sizes.{statements_size, statements_prints, arms_size, arms_prints}
 use Rattle.code_generation.specs.Statements.{statements_code, arms_code}
 use Rattle.emit_code.specs.Naming.{numbers_of}

@@ -1,6 +1,6 @@
 -- Answers of work: one turn of a task comes to what the task does, so the code behind all tasks never changes.
 use Rattle.std.proofs.Common.{◌≡◌, ◌∙◌, ◌++◌, ◌∷◌, [], ap, sym, refl, arith, length}
-use Rattle.merge_decl.proofs.Declared.{no_elements}
+use Rattle.typed_programs.proofs.Declared.{no_elements}
 use Rattle.emit_code.specs.Naming.{numbers_of}
 use Rattle.emit_code.specs.Work.{behind, done, left}
 use Rattle.emit_code.proofs.Tasks.{behind-none, behind-only, behind-last, behind-steps, behind-grows, left-last, left-steps}

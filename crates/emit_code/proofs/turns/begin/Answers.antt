@@ -2,7 +2,7 @@
 use Rattle.std.proofs.Common.{◌∙◌, ◌++◌, ◌∷◌, [], ap, sym}
 use Rattle.rev_syntax.specs.Trees as t
 use Rattle.rev_syntax.specs.View.{placed_name, expression, expressions, links, expression_form}
-use Rattle.merge_decl.proofs.Shapes.{expression_form-Cell, expression_form-Input, expression_form-Unary, expression_form-Apply, expression_form-Pick, expression_form-Chain}
+use Rattle.typed_programs.proofs.Shapes.{expression_form-Cell, expression_form-Input, expression_form-Unary, expression_form-Apply, expression_form-Pick, expression_form-Chain}
 use Rattle.rev_code.specs.declared.code.Instr.TheVariants as i
 use Rattle.emit_code.specs.Naming.{numbers_of}
 use Rattle.emit_code.specs.Work.{whole, arguments}

@@ -2,8 +2,8 @@
 use Rattle.std.proofs.Common.{◌≡◌, ◌∙◌, ◌++◌, ◌∷◌, [], ap, sym, length}
 use Rattle.rev_syntax.specs.Trees as t
 use Rattle.rev_syntax.specs.View.{expression, links}
-use Rattle.merge_decl.proofs.Declared.{no_elements}
-use Rattle.merge_decl.proofs.Shapes.{links-first}
+use Rattle.typed_programs.proofs.Declared.{no_elements}
+use Rattle.typed_programs.proofs.Shapes.{links-first}
 use Rattle.emit_code.specs.Naming.{numbers_of}
 use Rattle.emit_code.specs.Work.{deciding, whole, linked, decided}
 use Rattle.emit_code.proofs.Forms.{no_more_links, linked-code, links_worked, links_decided}

@@ -2,7 +2,7 @@
 use Rattle.std.proofs.Common.{◌≡◌, ◌∙◌, ◌+◌, ◌∷◌, drop, map, length, ap, sym, suc, arith}
 use Rattle.std.proofs.lemmas.List.{drop_more}
 use Rattle.rev_syntax.specs.View.{parameter}
-use Rattle.merge_decl.specs.Table.{added}
+use Rattle.name_tables.specs.Table.{added}
 use Rattle.code_generation.specs.Numbers.{with_params}
 use Rattle.emit_program.proofs.params.params_scope.Goals as goal
 

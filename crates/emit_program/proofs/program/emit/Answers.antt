@@ -3,7 +3,7 @@ use Rattle.std.proofs.Common.{◌∙◌, [], false, map, ap, refl, sym, subst, a
 use Rattle.rev_syntax.specs.View.{declaration, program as whole}
 use Rattle.rev_kinds.specs.declared.names.Checker.{Checker}
 use Rattle.rev_kinds.specs.Walk.{names_of}
-use Rattle.rev_types.specs.Limits.{funs}
+use Rattle.typed_programs.specs.Limits.{funs}
 use Rattle.rev_types.specs.Tables.{shared_table, proc_table, fun_table}
 use Rattle.rev_types.proofs.Named.{outer_names}
 use Rattle.code_generation.specs.Generated.{value_blocks}

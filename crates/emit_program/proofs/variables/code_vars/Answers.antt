@@ -2,7 +2,7 @@
 use Rattle.std.proofs.Common.{◌≡◌, ◌∙◌, [], map, ap, refl}
 use Rattle.std.proofs.lemmas.Result.{IfOk-weaker}
 use Rattle.rev_syntax.specs.View.{declaration, program as whole}
-use Rattle.rev_types.specs.Layout.{variables}
+use Rattle.typed_programs.specs.Layout.{variables}
 use Rattle.code_generation.specs.Generated.{var_of}
 use Rattle.emit_program.specs.Variables.{vars_in}
 use Rattle.emit_program.proofs.Vars.{vars_are}

@@ -3,8 +3,8 @@ use Rattle.std.proofs.Common.{◌≡◌, ◌∙◌, ◌+◌, ◌++◌, ◌∷◌
 use Rattle.std.specs.Prelude.{slice_get}
 use Rattle.std.proofs.lemmas.List.{drop_more}
 use Rattle.rev_syntax.specs.View.{declaration}
-use Rattle.merge_decl.proofs.Appends.{appends}
-use Rattle.rev_types.specs.declared.tables.SharedInfo.{SharedInfo}
+use Rattle.typed_programs.proofs.Appends.{appends}
+use Rattle.typed_programs.specs.declared.shared_info.SharedInfo.{SharedInfo}
 use Rattle.emit_program.specs.Variables.{var_in, vars_in}
 use Rattle.emit_program.proofs.variables.vars_of_rows.Goals as goal
 

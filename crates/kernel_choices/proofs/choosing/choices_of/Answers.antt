@@ -1,7 +1,7 @@
 -- The answers of choices_of: one row of variables after the other.
 use Rattle.std.proofs.Common.{◌∙◌, ap, subst, map}
 use Rattle.rev_syntax.specs.View.{program as whole}
-use Rattle.rev_types.specs.Layout.{variables}
+use Rattle.typed_programs.specs.Layout.{variables}
 use Rattle.revision_state.specs.Tables.{merges_in}
 use Rattle.revision_state.proofs.Merges.{merges_by_row}
 use Rattle.merge_kernels.specs.Terms.{definition}

@@ -1,7 +1,7 @@
 -- Answers of choose_kernels: each choice is a place of the kernels, and by the law on choices all make a plan.
 use Rattle.std.proofs.Common.{map}
 use Rattle.rev_syntax.specs.View.{program as whole}
-use Rattle.rev_types.specs.Layout.{variables}
+use Rattle.typed_programs.specs.Layout.{variables}
 use Rattle.revision_calculus.specs.Join.{merges_of}
 use Rattle.merge_kernels.specs.Terms.{definition}
 use Rattle.kernel_choices.proofs.Serving.{choices_within}

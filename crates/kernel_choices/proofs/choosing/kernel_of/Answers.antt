@@ -2,7 +2,7 @@
 use Rattle.std.proofs.Common.{ap, arith, refl, sym, subst, length, map}
 use Rattle.std.specs.Prelude.{List, None, Option}
 use Rattle.rev_syntax.specs.Trees.{Expression}
-use Rattle.merge_decl.specs.declared.expand.MergeRef.{MergeRef}
+use Rattle.typed_programs.specs.declared.expanded.MergeRef.{MergeRef}
 use Rattle.merge_kernels.specs.Terms.{definition}
 use Rattle.kernel_choices.specs.Choices.{IsPlaceOf}
 use Rattle.kernel_choices.proofs.Beyond.{no_term}

@@ -2,11 +2,11 @@
 use Rattle.std.proofs.Common.{◌≡◌, ◌∙◌, ap, sym, subst, Result, Ok, Err, IfErr, map}
 use Rattle.std.specs.Result.{IsErrAnd}
 use Rattle.rev_syntax.specs.View.{declaration, program as whole}
-use Rattle.merge_decl.specs.FunRules as rule
-use Rattle.merge_decl.specs.Least.{IsFirst}
-use Rattle.merge_decl.specs.Expands.{Refuses}
-use Rattle.merge_decl.specs.declared.expand.MergeFault.{MergeFault}
-use Rattle.merge_decl.specs.declared.expand.Expanded.{Expanded}
+use Rattle.typed_programs.specs.FunRules as rule
+use Rattle.typed_programs.specs.Least.{IsFirst}
+use Rattle.typed_programs.specs.Expands.{Refuses}
+use Rattle.typed_programs.specs.declared.fun_fault.MergeFault.{MergeFault}
+use Rattle.typed_programs.specs.declared.expanded.Expanded.{Expanded}
 use Rattle.merge_decl.proofs.expand.expand_funs.Goals as goal
 
 -- a refusal that is handed on

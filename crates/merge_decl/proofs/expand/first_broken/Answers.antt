@@ -1,8 +1,8 @@
 -- Answers of first_broken: the rule that is kept is the least of the one before and those that this use breaks.
 use Rattle.std.proofs.Common.{◌∙◌, ap}
-use Rattle.merge_decl.specs.FunRules as rule
-use Rattle.merge_decl.specs.Least.{least}
-use Rattle.merge_decl.specs.Table.{find}
+use Rattle.typed_programs.specs.FunRules as rule
+use Rattle.typed_programs.specs.Least.{least}
+use Rattle.name_tables.specs.Table.{find}
 use Rattle.merge_decl.specs.Uses.{use_of}
 use Rattle.merge_decl.proofs.FunSteps.{broken_step}
 use Rattle.merge_decl.proofs.expand.first_broken.Goals as goal

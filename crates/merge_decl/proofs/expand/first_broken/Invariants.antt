@@ -1,8 +1,8 @@
 -- Loops of first_broken: the best so far, taken with the least that the uses left break, is the least of all.
 use Rattle.std.proofs.Common.{◌≡◌, drop}
-use Rattle.merge_decl.specs.FunRules as rule
-use Rattle.merge_decl.specs.Least.{first_of, least}
-use Rattle.merge_decl.specs.Table.{find}
+use Rattle.typed_programs.specs.FunRules as rule
+use Rattle.typed_programs.specs.Least.{first_of, least}
+use Rattle.name_tables.specs.Table.{find}
 use Rattle.merge_decl.specs.Uses.{uses_of}
 use Rattle.merge_decl.proofs.expand.first_broken.Given as goal
 

@@ -1,10 +1,10 @@
 -- Loops of fun_table: what the table finds, or else the first fun among the declarations left, is the first of all.
 use Rattle.std.proofs.Common.{◌≡◌, ◌≤◌, map, drop}
 use Rattle.rev_syntax.specs.View.{declaration}
-use Rattle.merge_decl.specs.FunRules as rule
-use Rattle.merge_decl.specs.Names.{Name}
-use Rattle.merge_decl.specs.Table.{find}
-use Rattle.merge_decl.proofs.Tables.{or_else}
+use Rattle.typed_programs.specs.FunRules as rule
+use Rattle.name_tables.specs.Names.{Name}
+use Rattle.name_tables.specs.Table.{find}
+use Rattle.name_tables.proofs.Tables.{or_else}
 use Rattle.merge_decl.proofs.expand.fun_table.Given as goal
 
 abbrev pub invariant-loop-decl : goal.invariant-loop-decl

@@ -1,8 +1,8 @@
 -- Loops of merge_list: the merges so far, with those of the declarations left, are the merges of all declarations.
 use Rattle.std.proofs.Common.{◌≡◌, ◌++◌, map, drop}
 use Rattle.rev_syntax.specs.View.{declaration}
-use Rattle.merge_decl.specs.FunRules as rule
-use Rattle.merge_decl.specs.Expands.{decls_of_merges}
+use Rattle.typed_programs.specs.FunRules as rule
+use Rattle.typed_programs.specs.Expands.{decls_of_merges}
 use Rattle.merge_decl.proofs.expand.merge_list.Given as goal
 
 abbrev pub invariant-loop-decl : goal.invariant-loop-decl

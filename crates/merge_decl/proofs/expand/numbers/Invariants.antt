@@ -1,7 +1,7 @@
 -- Loops of numbers: the numbers so far, with those of the uses left, are the numbers of all uses.
 use Rattle.std.proofs.Common.{◌≡◌, ◌++◌, drop}
-use Rattle.merge_decl.specs.FunRules as rule
-use Rattle.merge_decl.specs.Table.{find}
+use Rattle.typed_programs.specs.FunRules as rule
+use Rattle.name_tables.specs.Table.{find}
 use Rattle.merge_decl.specs.Uses.{uses_of}
 use Rattle.merge_decl.proofs.expand.numbers.Given as goal
 

@@ -1,11 +1,11 @@
 -- Answers of resolved: the least broken rule is the first one, and where there is no least no use breaks a rule.
 use Rattle.std.proofs.Common.{◌∙◌, ap, sym}
 use Rattle.rev_syntax.specs.View.{program as whole}
-use Rattle.merge_decl.specs.FunRules as rule
-use Rattle.merge_decl.specs.Least.{least}
-use Rattle.merge_decl.specs.Table.{find}
+use Rattle.typed_programs.specs.FunRules as rule
+use Rattle.typed_programs.specs.Least.{least}
+use Rattle.name_tables.specs.Table.{find}
 use Rattle.merge_decl.specs.Uses.{uses_of}
-use Rattle.merge_decl.proofs.Leasts.{first_is, none_is}
+use Rattle.typed_programs.proofs.Leasts.{first_is, none_is}
 use Rattle.merge_decl.proofs.expand.resolved.Goals as goal
 
 pub returns-in-Some-clause-err : goal.returns-in-Some-clause-err

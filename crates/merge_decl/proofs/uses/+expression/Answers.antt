@@ -2,8 +2,9 @@
 use Rattle.std.proofs.Common.{◌∙◌, ap, sym}
 use Rattle.rev_syntax.specs.View.{expression_form, expression, expressions, links}
 use Rattle.merge_decl.specs.Uses.{uses_of}
-use Rattle.merge_decl.proofs.Appends.{chain_added, pick_added, apply_added, uses_of-push, count_expressions}
-use Rattle.merge_decl.proofs.Shapes.{expression_form-Chain, expression_form-Pick, expression_form-Apply}
+use Rattle.merge_decl.proofs.UsesAdded.{chain_added, pick_added, apply_added, uses_of-push}
+use Rattle.typed_programs.proofs.Appends.{count_expressions}
+use Rattle.typed_programs.proofs.Shapes.{expression_form-Chain, expression_form-Pick, expression_form-Apply}
 use Rattle.merge_decl.proofs.uses.+expression.Goals as goal
 
 pub add_node-returns-in_ok-add_links-in-Chain : goal.add_node-returns-in_ok-add_links-in-Chain

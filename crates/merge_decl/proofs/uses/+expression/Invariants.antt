@@ -1,7 +1,7 @@
 -- Loops of expression: the uses so far, with those of the arguments or links left, are the old ones and all theirs.
 use Rattle.std.proofs.Common.{◌≡◌, ◌++◌, drop}
 use Rattle.rev_syntax.specs.View.{expressions, links}
-use Rattle.merge_decl.specs.FunRules as rule
+use Rattle.typed_programs.specs.FunRules as rule
 use Rattle.merge_decl.specs.Uses.{uses_of}
 use Rattle.merge_decl.proofs.uses.+expression.Given as goal
 

@@ -1,7 +1,7 @@
 -- Loops of form: the uses so far, with those of the arms or statements left, are the old ones and all of theirs.
 use Rattle.std.proofs.Common.{◌≡◌, ◌++◌, drop}
 use Rattle.rev_syntax.specs.View.{arms, stmts}
-use Rattle.merge_decl.specs.FunRules as rule
+use Rattle.typed_programs.specs.FunRules as rule
 use Rattle.merge_decl.specs.Uses.{uses_of}
 use Rattle.merge_decl.proofs.uses.+form.Given as goal
 

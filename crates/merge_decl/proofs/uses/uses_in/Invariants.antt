@@ -1,7 +1,7 @@
 -- Loops of uses_in: the uses so far, with those of the declarations left, are the uses of all declarations.
 use Rattle.std.proofs.Common.{◌≡◌, ◌++◌, drop, map}
 use Rattle.rev_syntax.specs.View.{declaration}
-use Rattle.merge_decl.specs.FunRules as rule
+use Rattle.typed_programs.specs.FunRules as rule
 use Rattle.merge_decl.specs.Uses.{uses_of}
 use Rattle.merge_decl.proofs.uses.uses_in.Given as goal
 

@@ -4,7 +4,7 @@ use Rattle.revision_state.specs.Views.{given}
 use Rattle.audit_rules.specs.Traces.{SaysNo}
 use Rattle.audit_rules.specs.Verdicts.{computed_part}
 use Rattle.rev_audit.specs.Sweep.{IsAhead, IsSwept}
-use Rattle.rev_audit.proofs.Accepted.{accepted}
+use Rattle.stated_parts.proofs.Accepted.{accepted}
 use Rattle.rev_audit.proofs.Sweeps.{difference_within, says_no, yes_where}
 use Rattle.rev_audit.proofs.auditing.of_parts.Goals as goal
 

@@ -3,7 +3,7 @@ use Rattle.std.proofs.Common.{None, subst, sym}
 use Rattle.revision_state.specs.Views.{given}
 use Rattle.audit_rules.specs.Traces.{SaysNo}
 use Rattle.audit_rules.specs.Verdicts.{computed_part}
-use Rattle.rev_audit.proofs.Accepted.{accepted}
+use Rattle.stated_parts.proofs.Accepted.{accepted}
 use Rattle.rev_audit.proofs.Sweeps.{says_unstated}
 use Rattle.rev_audit.proofs.auditing.of_unstated.Goals as goal
 

@@ -1,7 +1,7 @@
 -- Answers of is_joined_earlier: the table has the first part that lists the other, and the order of paths decides.
 use Rattle.std.proofs.Common.{◌∙◌, sym}
 use Rattle.revision_state.specs.Views.{given}
-use Rattle.rev_audit.proofs.Finding.{joiner_within, none_earlier, which_joiner}
+use Rattle.stated_parts.proofs.Finding.{joiner_within, none_earlier, which_joiner}
 use Rattle.rev_audit.proofs.joinee.is_joined_earlier.Goals as goal
 
 pub nth_part-part-requires : goal.nth_part-part-requires

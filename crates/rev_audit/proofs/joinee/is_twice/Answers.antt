@@ -2,7 +2,7 @@
 use Rattle.std.proofs.Common.{inl, ◌∙◌, sym}
 use Rattle.revision_state.specs.Views.{given}
 use Rattle.audit_rules.specs.Parts.{joined_by}
-use Rattle.rev_audit.proofs.Finding.{joined_or, listed, unlisted}
+use Rattle.stated_parts.proofs.Finding.{joined_or, listed, unlisted}
 use Rattle.rev_audit.proofs.joinee.is_twice.Goals as goal
 
 pub returns-then-is_some : goal.returns-then-is_some

@@ -3,7 +3,7 @@ use Rattle.std.proofs.Common.{arith, subst, sym}
 use Rattle.std.proofs.lemmas.Result.{IfOk-weaker}
 use Rattle.revision_calculus.specs.Kinded.{LocationsAre, location_kinds}
 use Rattle.revision_state.specs.Views.{given}
-use Rattle.rev_audit.proofs.Accepted.{accepted}
+use Rattle.stated_parts.proofs.Accepted.{accepted}
 use Rattle.rev_audit.proofs.Taking.{takes_no_part, takes_no_room, takes_told}
 use Rattle.rev_audit.proofs.joinee.taken_end.Goals as goal
 

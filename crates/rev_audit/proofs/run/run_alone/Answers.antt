@@ -10,9 +10,9 @@ use Rattle.audit_rules.specs.Parts.{joined_by}
 use Rattle.audit_rules.specs.Traces.{paths_of}
 use Rattle.audit_rules.proofs.PartsExist.{left}
 use Rattle.rev_audit.specs.Own.{BeginsAt, ComesTo, IsJoinee, StopsAt}
-use Rattle.rev_audit.specs.Tables.{IsSetOf}
-use Rattle.rev_audit.proofs.Accepted.{accepted}
-use Rattle.rev_audit.proofs.Finding.{set_more, set_none}
+use Rattle.stated_parts.specs.Tables.{IsSetOf}
+use Rattle.stated_parts.proofs.Accepted.{accepted}
+use Rattle.stated_parts.proofs.Finding.{set_more, set_none}
 use Rattle.rev_audit.proofs.Running.{awaited_joins, comes_made, comes_missing, comes_twice, first_under_way, fits_there, none_joined, on_join, under_there}
 use Rattle.rev_audit.proofs.run.run_alone.Goals as goal
 

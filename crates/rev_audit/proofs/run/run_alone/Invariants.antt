@@ -5,7 +5,7 @@ use Rattle.audit_rules.specs.Parts.{joined_by}
 use Rattle.audit_rules.proofs.PartsExist.{left}
 use Rattle.rev_audit.specs.Own.{IsUnderWay}
 use Rattle.audit_rules.specs.Traces.{paths_of}
-use Rattle.rev_audit.specs.Tables.{IsSetOf}
+use Rattle.stated_parts.specs.Tables.{IsSetOf}
 use Rattle.rev_audit.proofs.run.run_alone.Given as goal
 
 abbrev pub invariant-loop-joined : goal.invariant-loop-joined

@@ -6,7 +6,7 @@ use Rattle.revision_calculus.specs.HandlesHeld.{weight}
 use Rattle.revision_calculus.specs.Step.{next}
 use Rattle.revision_state.specs.Views.{given}
 use Rattle.rev_audit.specs.Alone.{NamesChild, alone_event}
-use Rattle.rev_audit.proofs.Accepted.{accepted}
+use Rattle.stated_parts.proofs.Accepted.{accepted}
 use Rattle.rev_audit.proofs.Running.{few_there, on_fork, on_move, under_there}
 use Rattle.rev_audit.proofs.run.run_on.Goals as goal
 

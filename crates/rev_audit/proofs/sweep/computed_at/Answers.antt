@@ -4,7 +4,7 @@ use Rattle.rev_num.proofs.Lists.{within_some}
 use Rattle.revision_state.specs.Views.{given}
 use Rattle.audit_rules.specs.Verdicts.{computed_part}
 use Rattle.rev_audit.specs.Sweep.{Grows, IsKept, IsStarts}
-use Rattle.rev_audit.proofs.Accepted.{accepted}
+use Rattle.stated_parts.proofs.Accepted.{accepted}
 use Rattle.rev_audit.proofs.Sweeps.{children_begin, kept_none, kept_run, none_computed, run_computed, stands_there, starts_taken}
 use Rattle.rev_audit.proofs.sweep.computed_at.Goals as goal
 

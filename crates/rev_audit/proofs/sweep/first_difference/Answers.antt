@@ -3,7 +3,7 @@ use Rattle.std.proofs.Common.{◌≡◌, ◌+◌, ◌-◌, arith, refl, subst}
 use Rattle.revision_state.specs.Views.{given}
 use Rattle.audit_rules.specs.Verdicts.{computed_part}
 use Rattle.rev_audit.specs.Sweep.{Differs}
-use Rattle.rev_audit.proofs.Accepted.{accepted}
+use Rattle.stated_parts.proofs.Accepted.{accepted}
 use Rattle.rev_audit.proofs.Sweeps.{differs_here, none_yet, same_more}
 use Rattle.rev_audit.proofs.sweep.first_difference.Goals as goal
 

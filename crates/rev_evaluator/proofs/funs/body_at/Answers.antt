@@ -1,6 +1,6 @@
 -- Answers of body_at: the declaration of this number has the body, and without a declaration there is none.
 use Rattle.std.proofs.Common.{◌∙◌, ap, option_and_then}
-use Rattle.merge_decl.specs.Evaluation.{body_at, fun_body}
+use Rattle.typed_programs.specs.Evaluation.{body_at, fun_body}
 use Rattle.rev_evaluator.proofs.funs.body_at.Goals as goal
 
 pub returns-in-Some : goal.returns-in-Some

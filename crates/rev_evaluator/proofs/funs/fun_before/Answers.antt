@@ -1,7 +1,7 @@
 -- Answers of fun_before: the table has the name's first fun, which is meant where it is declared before the bound.
 use Rattle.std.proofs.Common.{◌∙◌, ap, sym, subst, arith}
-use Rattle.merge_decl.specs.Evaluation.{IsMeant}
-use Rattle.merge_decl.specs.Table.{find}
+use Rattle.typed_programs.specs.Evaluation.{IsMeant}
+use Rattle.name_tables.specs.Table.{find}
 use Rattle.rev_evaluator.specs.Declarations.{declared_by}
 use Rattle.rev_evaluator.proofs.Weighed.{name_weight}
 use Rattle.rev_evaluator.proofs.Meanings.{meant_none, meant_later, meant_some}

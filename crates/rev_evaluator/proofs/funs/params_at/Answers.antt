@@ -1,6 +1,6 @@
 -- Answers of params_at: the parameters are those of the declaration of this number, and without one there are none.
 use Rattle.std.proofs.Common.{◌∙◌, ap, sym}
-use Rattle.merge_decl.specs.Evaluation.{params_at, params_in}
+use Rattle.typed_programs.specs.Evaluation.{params_at, params_in}
 use Rattle.rev_evaluator.specs.Declarations.{declared_by}
 use Rattle.rev_evaluator.proofs.funs.params_at.Goals as goal
 

@@ -1,6 +1,6 @@
 -- Answers of passed: a parameter of this name with a value replaces what was found, and any other leaves it.
 use Rattle.std.proofs.Common.{◌∙◌, true, false, ap, sym, arith, option_map}
-use Rattle.merge_decl.specs.Names.{same}
+use Rattle.name_tables.specs.Names.{same}
 use Rattle.rev_evaluator.specs.Seen.{seen}
 use Rattle.rev_evaluator.proofs.Bindings.{passed_turn, unpassed_turn}
 use Rattle.rev_evaluator.proofs.locals.passed.Goals.{in-Some+then-eq, in-Some+else-eq, in_default}

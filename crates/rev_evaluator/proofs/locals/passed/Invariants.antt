@@ -1,9 +1,9 @@
 -- Loops of passed: what was found, with the parameters left bound over it, is what all the parameters bind.
 use Rattle.std.proofs.Common.{◌≡◌, drop, map, option_map}
 use Rattle.rev_syntax.specs.View.{parameter}
-use Rattle.merge_decl.specs.Definitions.{names_of}
+use Rattle.typed_programs.specs.Definitions.{names_of}
 use Rattle.rev_evaluator.specs.Seen.{seen}
-use Rattle.merge_decl.specs.Value.{bind_all, nothing}
+use Rattle.typed_programs.specs.Value.{bind_all, nothing}
 use Rattle.rev_evaluator.proofs.locals.passed.Given as goal
 
 abbrev pub invariant-loop-i : goal.invariant-loop-i

@@ -3,10 +3,10 @@ use Rattle.std.proofs.Common.{◌≡◌, ◌∙◌, ◌<◌, ℕ, List, length, 
 use Rattle.std.proofs.lemmas.Int.{to_z-of_z}
 use Rattle.rev_syntax.specs.View.{declaration, program as whole}
 use Rattle.rev_num.specs.declared.value.Value.TheVariants as v
-use Rattle.merge_decl.specs.Evaluation.{merge_answer, declaration_value}
-use Rattle.merge_decl.specs.FunRules.{merge_decls}
-use Rattle.merge_decl.specs.declared.expand.Expanded.{Expanded}
-use Rattle.merge_decl.specs.declared.expand.MergeRef.{MergeRef}
+use Rattle.typed_programs.specs.Evaluation.{merge_answer, declaration_value}
+use Rattle.typed_programs.specs.FunRules.{merge_decls}
+use Rattle.typed_programs.specs.declared.expanded.Expanded.{Expanded}
+use Rattle.typed_programs.specs.declared.expanded.MergeRef.{MergeRef}
 use Rattle.rev_evaluator.specs.Declarations.{declared_by}
 use Rattle.rev_evaluator.proofs.Weighed.{merge_weighs}
 use Rattle.rev_evaluator.proofs.Meanings.{declared_value, merge_number}

@@ -3,8 +3,8 @@ use Rattle.std.proofs.Common.{◌∙◌, ap, refl, sym, w64}
 use Rattle.std.proofs.lemmas.Int.{to_z-of_z}
 use Rattle.rev_syntax.specs.View.{declaration, expression}
 use Rattle.rev_num.specs.declared.value.Value.TheVariants as v
-use Rattle.merge_decl.specs.Evaluation as meant
-use Rattle.merge_decl.specs.Value.{closed}
+use Rattle.typed_programs.specs.Evaluation as meant
+use Rattle.typed_programs.specs.Value.{closed}
 use Rattle.rev_evaluator.specs.Declarations.{declared_by}
 use Rattle.rev_evaluator.proofs.Evaluations.{bound_three}
 use Rattle.rev_evaluator.proofs.Meanings.{no_merge}

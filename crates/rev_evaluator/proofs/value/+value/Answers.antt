@@ -1,19 +1,19 @@
 -- Answers of value: each turn keeps what all that waits comes to, and a fun's body is that of an earlier fun.
 use Rattle.std.proofs.Common.{◌∙◌, ◌-◌, ◌++◌, get_or, map, refl, sym, ap, arith}
 use Rattle.rev_syntax.specs.View.{parameter, expression, expressions}
-use Rattle.merge_decl.specs.Definitions.{names_of}
-use Rattle.merge_decl.specs.Evaluation as meant
+use Rattle.typed_programs.specs.Definitions.{names_of}
+use Rattle.typed_programs.specs.Evaluation as meant
 use Rattle.rev_evaluator.specs.Declarations.{declared_by}
 use Rattle.rev_evaluator.specs.Environment.{reads}
 use Rattle.rev_evaluator.specs.Locals.{local}
 use Rattle.rev_evaluator.specs.Seen.{seen}
 use Rattle.rev_evaluator.specs.declared.locals.Locals as locals
-use Rattle.merge_decl.specs.Weights.{args_within, weight_of, weights_before}
+use Rattle.typed_programs.specs.Weights.{args_within, weight_of, weights_before}
 use Rattle.rev_evaluator.proofs.Weighed.{body_weight}
 use Rattle.rev_evaluator.specs.Work.{application, comes_to, kept, next_size, next_weight, passed, remains, waiting, waiting_weight}
 use Rattle.rev_evaluator.specs.declared.work.Next.TheVariants as next
 use Rattle.rev_evaluator.proofs.Counts.{bodies_to, bodies_to-body, bodies_to-before, expression_count-positive}
-use Rattle.merge_decl.proofs.Declared.{no_elements}
+use Rattle.typed_programs.proofs.Declared.{no_elements}
 use Rattle.rev_evaluator.proofs.Evaluations.{applied-none, applied-fault, applied-given, given-bound, given-unbound, on_fault}
 use Rattle.rev_evaluator.proofs.Works as w
 use Rattle.rev_evaluator.proofs.value.+value.Goals as goal

@@ -2,8 +2,8 @@
 use Rattle.std.proofs.Common.{◌≡◌, ◌+◌, ◌*◌, ◌≤◌, length}
 use Rattle.rev_syntax.specs.View.{expression, expressions}
 use Rattle.rev_syntax.specs.Small.{expression_count, expressions_count}
-use Rattle.merge_decl.specs.Evaluation as meant
-use Rattle.merge_decl.specs.Weights.{weight_within, weights_before}
+use Rattle.typed_programs.specs.Evaluation as meant
+use Rattle.typed_programs.specs.Weights.{weight_within, weights_before}
 use Rattle.rev_evaluator.specs.Declarations.{declared_by}
 use Rattle.rev_evaluator.specs.Environment.{reads}
 use Rattle.rev_evaluator.specs.Work.{comes_to, kept, next_size, next_weight, remains, waiting, waiting_weight}

@@ -3,13 +3,13 @@ use Rattle.std.proofs.Common.{◌∙◌, None, Ok, ap, sym, refl, arith, rules}
 use Rattle.rev_syntax.specs.Trees as t
 use Rattle.rev_syntax.specs.View.{links, expression_form, expression, expressions, placed_name}
 use Rattle.rev_evaluator.specs.Environment.{reads}
-use Rattle.merge_decl.specs.Evaluation.{expression_form_within}
+use Rattle.typed_programs.specs.Evaluation.{expression_form_within}
 use Rattle.rev_num.specs.declared.value.Value.TheVariants as v
 use Rattle.rev_evaluator.specs.Work.{ended, part_cost, part_turn, turn_size, turn_weight, value_turn}
 use Rattle.rev_evaluator.specs.declared.seen.Seen.TheVariants as f
 use Rattle.rev_evaluator.specs.declared.work.Pending.TheVariants as wait
 use Rattle.rev_evaluator.proofs.Evaluations.{at_int, at_bool, at_no_rev, at_var, at_inputs}
-use Rattle.merge_decl.proofs.Shapes.{expression_form-Chain, expression_form-Pick, expression_form-Apply, expression_form-Unary, expression_form-Cell, expression_form-Input, expression_form-Int, expression_form-Bool, expression_form-NoRev, expression_form-Var, expression_form-Inputs}
+use Rattle.typed_programs.proofs.Shapes.{expression_form-Chain, expression_form-Pick, expression_form-Apply, expression_form-Unary, expression_form-Cell, expression_form-Input, expression_form-Int, expression_form-Bool, expression_form-NoRev, expression_form-Var, expression_form-Inputs}
 use Rattle.rev_evaluator.proofs.Works.{at-value, awaited, by_turn, count_of, of_form, weight_of_node, wait-cell, wait-input, wait-left, wait-pick, wait-unary}
 use Rattle.rev_evaluator.proofs.work.begin.Goals as goal
 

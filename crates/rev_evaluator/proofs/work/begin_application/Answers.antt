@@ -3,8 +3,8 @@ use Rattle.std.proofs.Common.{◌∙◌, None, ap, sym, arith}
 use Rattle.rev_syntax.specs.Trees as t
 use Rattle.rev_syntax.specs.View.{expressions, placed_name}
 use Rattle.rev_syntax.specs.Small.{expressions_count}
-use Rattle.merge_decl.specs.Weights.{expressions_weight}
-use Rattle.merge_decl.specs.Evaluation.{expression_form_within}
+use Rattle.typed_programs.specs.Weights.{expressions_weight}
+use Rattle.typed_programs.specs.Evaluation.{expression_form_within}
 use Rattle.rev_evaluator.specs.Work.{call_turn, ended, part_turn, turn_size, turn_weight}
 use Rattle.rev_evaluator.specs.declared.work.Pending.TheVariants as wait
 use Rattle.rev_evaluator.proofs.Works.{apply-begun, apply-none, awaited, by_turn, without-none}

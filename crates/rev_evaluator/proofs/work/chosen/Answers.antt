@@ -2,7 +2,7 @@
 use Rattle.std.proofs.Common.{◌∙◌, true, false, ap, sym, arith}
 use Rattle.rev_syntax.specs.Small.{expression_count}
 use Rattle.rev_syntax.specs.View.{expression}
-use Rattle.merge_decl.specs.Weights.{expression_weight}
+use Rattle.typed_programs.specs.Weights.{expression_weight}
 use Rattle.rev_evaluator.specs.Seen.{seen}
 use Rattle.rev_evaluator.proofs.Works.{give-pick}
 use Rattle.rev_evaluator.proofs.work.chosen.Goals.{then-truth, else-truth}

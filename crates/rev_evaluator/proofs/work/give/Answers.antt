@@ -1,7 +1,7 @@
 -- Answers of give: each form of what waits goes on with the value, or faults with it, as its meaning does.
 use Rattle.std.proofs.Common.{◌∙◌, ap, w64, SFits, rules}
 use Rattle.std.proofs.lemmas.Int.{to_z-of_z}
-use Rattle.merge_decl.specs.Value.{read_cell, read_input}
+use Rattle.typed_programs.specs.Value.{read_cell, read_input}
 use Rattle.rev_evaluator.specs.Environment.{reads}
 use Rattle.rev_evaluator.specs.Seen.{seen}
 use Rattle.rev_evaluator.proofs.Works.{by_form, by_turn, fault_out, give-cell, give-cell-fault, give-input, give-input-fault, give-unary, give-unary-fault, give-behind, give-right, give-right-fault, give-argument}

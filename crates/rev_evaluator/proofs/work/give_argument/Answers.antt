@@ -2,7 +2,7 @@
 use Rattle.std.proofs.Common.{◌∙◌, Some, ◌++◌, ◌∷◌, [], suc, ap, sym, arith, add-one}
 use Rattle.rev_syntax.specs.View.{expressions}
 use Rattle.rev_syntax.specs.Small.{expressions_count}
-use Rattle.merge_decl.specs.Weights.{expressions_weight}
+use Rattle.typed_programs.specs.Weights.{expressions_weight}
 use Rattle.rev_evaluator.specs.Seen.{seen}
 use Rattle.rev_evaluator.specs.Work.{application, call_turn, comes_to, ended, lasts, turn_size, turn_weight}
 use Rattle.rev_evaluator.specs.declared.work.Pending.TheVariants as wait

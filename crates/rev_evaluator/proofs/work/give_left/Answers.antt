@@ -2,13 +2,13 @@
 use Rattle.std.proofs.Common.{◌∙◌, ap, sym, refl, arith}
 use Rattle.rev_syntax.specs.View.{links, expression}
 use Rattle.rev_syntax.specs.Small.{links_count}
-use Rattle.merge_decl.specs.Weights.{links_weight}
-use Rattle.merge_decl.specs.Evaluation.{chained_within}
+use Rattle.typed_programs.specs.Weights.{links_weight}
+use Rattle.typed_programs.specs.Evaluation.{chained_within}
 use Rattle.rev_evaluator.specs.Seen.{seen}
 use Rattle.rev_evaluator.specs.Work.{ended, link_cost, turn_size, turn_weight}
 use Rattle.rev_evaluator.specs.declared.work.Pending.TheVariants as wait
-use Rattle.merge_decl.proofs.Declared.{no_elements}
-use Rattle.merge_decl.proofs.Shapes.{links-first}
+use Rattle.typed_programs.proofs.Declared.{no_elements}
+use Rattle.typed_programs.proofs.Shapes.{links-first}
 use Rattle.rev_evaluator.proofs.Works.{awaited, by_turn, given, left-alone, left-decided, left-wanted}
 use Rattle.rev_evaluator.proofs.work.give_left.Goals as goal
 

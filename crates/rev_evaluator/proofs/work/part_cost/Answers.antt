@@ -2,7 +2,7 @@
 use Rattle.std.proofs.Common.{◌∙◌, ap, sym}
 use Rattle.rev_syntax.specs.View.{expression_form}
 use Rattle.rev_evaluator.specs.Work.{part_cost}
-use Rattle.merge_decl.proofs.Shapes.{expression_form-Chain, expression_form-Pick, expression_form-Apply, expression_form-Unary, expression_form-Cell, expression_form-Input, expression_form-Int, expression_form-Bool, expression_form-NoRev, expression_form-Var, expression_form-Inputs}
+use Rattle.typed_programs.proofs.Shapes.{expression_form-Chain, expression_form-Pick, expression_form-Apply, expression_form-Unary, expression_form-Cell, expression_form-Input, expression_form-Int, expression_form-Bool, expression_form-NoRev, expression_form-Var, expression_form-Inputs}
 use Rattle.rev_evaluator.proofs.work.part_cost.Goals as goal
 
 pub returns-in-Chain : goal.returns-in-Chain

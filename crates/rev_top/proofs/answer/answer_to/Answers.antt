@@ -4,13 +4,13 @@ use Rattle.merge_kernels.specs.Terms.{definition}
 use Rattle.rev_top.specs.Kernels.{HasChosenIn, text_of}
 use Rattle.std.specs.Prelude.{IfOk}
 use Rattle.rev_report.specs.Report.{output}
-use Rattle.rev_top.specs.Answer.{Given, SaysAs, reads_of}
+use Rattle.mode_reports.specs.Answer.{Given, SaysAs, reads_of}
 use Rattle.rev_top.specs.Making.{said}
 use Rattle.rev_top.specs.Rans.{Holds}
-use Rattle.rev_top.specs.Stops.{Meets}
+use Rattle.mode_reports.specs.Stops.{Meets}
 use Rattle.rev_top.proofs.Kernels.{of_call}
 use Rattle.rev_top.proofs.Rans.{leaves_by}
-use Rattle.rev_top.proofs.Stages.{goes_on, leaves}
+use Rattle.mode_reports.proofs.Stages.{goes_on, leaves}
 use Rattle.rev_top.proofs.answer.answer_to.Goals as goal
 
 pub returns-in_err-bytes-clause-meets : goal.returns-in_err-bytes-clause-meets

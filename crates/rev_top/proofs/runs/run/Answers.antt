@@ -2,12 +2,12 @@
 use Rattle.std.proofs.Common.{map}
 use Rattle.rev_syntax.specs.View.{program as whole}
 use Rattle.merge_kernels.specs.Terms.{definition}
-use Rattle.rev_types.specs.declared.typed.Typed.{Typed}
+use Rattle.typed_programs.specs.declared.typed.Typed.{Typed}
 use Rattle.rev_top.specs.Making.{RunsBy, told}
 use Rattle.rev_top.specs.Rans.{of_run}
-use Rattle.rev_top.specs.Texts.{Checks}
+use Rattle.mode_reports.specs.Texts.{Checks}
 use Rattle.rev_top.proofs.Kernels.{of_text}
-use Rattle.rev_top.proofs.Stages.{goes_on, leaves}
+use Rattle.mode_reports.proofs.Stages.{goes_on, leaves}
 use Rattle.rev_top.proofs.runs.run.Goals as goal
 
 pub returns-in_err-typed-clause-made : goal.returns-in_err-typed-clause-made

@@ -4,7 +4,7 @@ use Rattle.std.specs.Prelude.{Option}
 use Rattle.rev_syntax.specs.View.{program as whole}
 use Rattle.merge_kernels.specs.Terms.{definition}
 use Rattle.rev_top.proofs.Kernels.{run_planned}
-use Rattle.rev_top.proofs.CodeRuns.{plan_for, ran_by, ran_of}
+use Rattle.rev_top.proofs.RunsByThreads.{plan_for, ran_by, ran_of}
 use Rattle.rev_top.proofs.runs.run_of.Goals as goal
 
 pub run_threads-requires-clause-plan : goal.run_threads-requires-clause-plan

@@ -1,7 +1,7 @@
 -- Answers of affine_of: a program that keeps the affine rule stays the same, and a fault is its first break.
 use Rattle.std.proofs.Common.{refl}
 use Rattle.rev_syntax.specs.View.{program as whole}
-use Rattle.rev_types.specs.declared.typed.Typed.{Typed}
+use Rattle.typed_programs.specs.declared.typed.Typed.{Typed}
 use Rattle.rev_top.proofs.Handles.{refuses_affine}
 use Rattle.rev_top.proofs.streams.affine_of.Goals as goal
 

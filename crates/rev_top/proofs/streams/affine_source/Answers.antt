@@ -2,11 +2,11 @@
 use Rattle.std.proofs.Common.{Vec, Global, ℕ, List, subst}
 use Rattle.std.specs.Prelude.{Some}
 use Rattle.rev_syntax.specs.View.{program as whole}
-use Rattle.rev_types.specs.declared.typed.Typed.{Typed}
-use Rattle.rev_top.specs.Affine.{ReadsAffine}
-use Rattle.rev_top.specs.Answer.{Given, source_limit}
-use Rattle.rev_top.specs.Stops.{Meets}
-use Rattle.rev_top.proofs.Stages.{goes_on, leaves}
+use Rattle.typed_programs.specs.declared.typed.Typed.{Typed}
+use Rattle.mode_reports.specs.Affine.{ReadsAffine}
+use Rattle.mode_reports.specs.Answer.{Given, source_limit}
+use Rattle.mode_reports.specs.Stops.{Meets}
+use Rattle.mode_reports.proofs.Stages.{goes_on, leaves}
 use Rattle.rev_top.proofs.streams.affine_source.Goals as goal
 
 pub returns-in_err-text-clause-meets : goal.returns-in_err-text-clause-meets

@@ -1,9 +1,9 @@
 -- Answers of affine_text: a text that is at fault leaves with its first fault, and else the rule is tried.
 use Rattle.rev_syntax.specs.View.{program as whole}
-use Rattle.rev_types.specs.declared.typed.Typed.{Typed}
-use Rattle.rev_top.specs.Affine.{KeepsAffine}
-use Rattle.rev_top.specs.Texts.{Checks}
-use Rattle.rev_top.proofs.Stages.{goes_on, leaves}
+use Rattle.typed_programs.specs.declared.typed.Typed.{Typed}
+use Rattle.mode_reports.specs.Affine.{KeepsAffine}
+use Rattle.mode_reports.specs.Texts.{Checks}
+use Rattle.mode_reports.proofs.Stages.{goes_on, leaves}
 use Rattle.rev_top.proofs.streams.affine_text.Goals as goal
 
 pub returns-in_err-typed : goal.returns-in_err-typed

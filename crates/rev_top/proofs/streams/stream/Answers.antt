@@ -1,6 +1,6 @@
 -- Answers of stream: what was read is a program that keeps the affine rule, or a refusal, which is delivered.
 use Rattle.rev_syntax.specs.View.{program as whole}
-use Rattle.rev_types.specs.declared.typed.Typed.{Typed}
+use Rattle.typed_programs.specs.declared.typed.Typed.{Typed}
 use Rattle.rev_top.proofs.StreamAnswers.{read_affine, refused, streamed}
 use Rattle.rev_top.proofs.streams.stream.Goals as goal
 

@@ -1,7 +1,7 @@
 -- Answers of stream_program: there is one outcome of the program, and what is streamed and delivered is that one's.
 use Rattle.rev_syntax.specs.View.{program as whole}
 use Rattle.revision_calculus.proofs.Outcomes.{one_outcome}
-use Rattle.rev_top.specs.Answer.{setting}
+use Rattle.mode_reports.specs.Answer.{setting}
 use Rattle.rev_top.proofs.streams.stream_program.Goals as goal
 
 pub returns : goal.returns

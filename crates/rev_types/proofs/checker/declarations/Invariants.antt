@@ -3,7 +3,7 @@ use Rattle.std.proofs.Common.{◌≡◌, ◌≤◌, ◌++◌, drop, map, None}
 use Rattle.rev_syntax.specs.View.{declaration}
 use Rattle.rev_kinds.specs.Walk.{names_of}
 use Rattle.rev_types.specs.Passing.{passed_of}
-use Rattle.rev_types.specs.Program as program
+use Rattle.typed_programs.specs.Program as program
 use Rattle.rev_types.specs.Walk as rule
 use Rattle.rev_types.proofs.checker.declarations.Given as goal
 

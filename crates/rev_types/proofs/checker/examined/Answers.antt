@@ -1,10 +1,10 @@
 -- Answers of examined: the fault that the walk found is the first of all, and where it found none there is none.
 use Rattle.std.proofs.Common.{◌∙◌, sym}
 use Rattle.rev_syntax.specs.View.{program as whole}
-use Rattle.merge_decl.proofs.Leasts.{first_is, none_is}
-use Rattle.rev_kinds.specs.Faults.{place, rank}
-use Rattle.rev_types.specs.Program.{faults}
-use Rattle.rev_types.proofs.Accepting.{not_typed}
+use Rattle.typed_programs.proofs.Leasts.{first_is, none_is}
+use Rattle.typed_programs.specs.Faults.{place, rank}
+use Rattle.typed_programs.specs.Program.{faults}
+use Rattle.rev_types.proofs.Refusing.{not_typed}
 use Rattle.rev_types.proofs.FirstOfFaults.{first_of_faults}
 use Rattle.rev_types.proofs.checker.examined.Goals as goal
 

@@ -1,7 +1,7 @@
 -- Loops of returns: the answer so far, taken through the statements or arms left, is the answer for all of them.
 use Rattle.std.proofs.Common.{◌≡◌, drop, true, false}
 use Rattle.rev_syntax.specs.View.{stmts, arms}
-use Rattle.rev_types.specs.Statements as statements
+use Rattle.typed_programs.specs.Statements as statements
 use Rattle.rev_types.proofs.decls.+returns.Given as goal
 
 abbrev pub invariant-returns-loop-s : goal.invariant-returns-loop-s

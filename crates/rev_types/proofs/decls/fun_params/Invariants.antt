@@ -3,7 +3,7 @@ use Rattle.std.proofs.Common.{◌≡◌, drop, map, None}
 use Rattle.rev_syntax.specs.View.{parameter}
 use Rattle.rev_report.specs.declared.limit.Limit.TheVariants as limits
 use Rattle.rev_report.specs.Limits.{first_past}
-use Rattle.rev_types.specs.Scopes as scopes
+use Rattle.typed_programs.specs.Scopes as scopes
 use Rattle.rev_types.specs.Walk as rule
 use Rattle.rev_types.proofs.decls.fun_params.Given as goal
 

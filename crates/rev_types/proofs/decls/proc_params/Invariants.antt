@@ -4,8 +4,8 @@ use Rattle.rev_syntax.specs.View.{parameter}
 use Rattle.rev_report.specs.declared.limit.Limit.TheVariants as limits
 use Rattle.rev_report.specs.Limits.{first_past}
 use Rattle.rev_kinds.specs.Walk.{names_of}
-use Rattle.rev_types.specs.Program as program
-use Rattle.rev_types.specs.Scopes as scopes
+use Rattle.typed_programs.specs.Program as program
+use Rattle.typed_programs.specs.Scopes as scopes
 use Rattle.rev_types.specs.Walk as rule
 use Rattle.rev_types.proofs.decls.proc_params.Given as goal
 

@@ -1,7 +1,7 @@
 -- Loops of weight: the sum so far, with the weights of the arguments or links left, is the weight of all.
 use Rattle.std.proofs.Common.{◌≡◌, drop}
 use Rattle.rev_syntax.specs.View.{expressions, links}
-use Rattle.rev_types.specs.Program as program
+use Rattle.typed_programs.specs.Program as program
 use Rattle.rev_types.proofs.passed.+weight.Given as goal
 
 abbrev pub invariant-args_weight-loop-arg : goal.invariant-args_weight-loop-arg

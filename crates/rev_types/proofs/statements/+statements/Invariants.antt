@@ -2,7 +2,7 @@
 use Rattle.std.proofs.Common.{◌≡◌, ◌≤◌, drop, None, take, length}
 use Rattle.rev_syntax.specs.View.{stmts, arms}
 use Rattle.rev_kinds.specs.Walk.{names_of}
-use Rattle.rev_types.specs.Statements as statements
+use Rattle.typed_programs.specs.Statements as statements
 use Rattle.rev_types.specs.Walk as rule
 use Rattle.rev_types.proofs.statements.+statements.Given as goal
 

@@ -1,9 +1,9 @@
 -- Answers of make_typed: a program without a fault is well typed and laid out, so the tables list what it declares.
 use Rattle.std.proofs.Common.{◌∙◌}
 use Rattle.rev_syntax.specs.View.{program as whole}
-use Rattle.rev_types.specs.Layout.{IsLaidOut}
-use Rattle.rev_types.proofs.Accepting.{kept_typed}
-use Rattle.rev_types.proofs.Layouts.{laid_out}
+use Rattle.typed_programs.specs.Layout.{IsLaidOut}
+use Rattle.typed_programs.proofs.Accepting.{kept_typed}
+use Rattle.typed_programs.proofs.Layouts.{laid_out}
 use Rattle.rev_types.proofs.typed.make_typed.Goals as goal
 
 pub invariant_of-result : goal.invariant_of-result

@@ -5,7 +5,7 @@ use Rattle.std.proofs.Common.{refl}
 use Rattle.revision_calculus.specs.Examples as x
 use Rattle.revision_calculus.specs.Examples.{sharing, usual}
 use Rattle.revision_calculus.proofs.EveryRun.{always_tells, run_latest}
-use Rattle.merge_decl.specs.Definitions.{merge_value_of}
+use Rattle.typed_programs.specs.Definitions.{merge_value_of}
 use Rattle.revision_calculus.proofs.worked.accounts.Goals as goal
 
 pub returns : goal.returns

@@ -1,7 +1,7 @@
 -- Loops of shown_values: the values so far, with those of the variables left, are the values of all variables.
 use Rattle.std.proofs.Common.{◌≡◌, ◌++◌, drop}
 use Rattle.rev_syntax.specs.View.{program as whole}
-use Rattle.rev_types.specs.Layout.{variables}
+use Rattle.typed_programs.specs.Layout.{variables}
 use Rattle.revision_calculus.specs.Outcome.{show_all}
 use Rattle.revision_data.proofs.shown.shown_values.Given as goal
 

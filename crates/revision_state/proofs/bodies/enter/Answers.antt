@@ -1,5 +1,5 @@
 -- Answers of enter: whether the name is new or not, all numbers stay below the count and no two names share one.
-use Rattle.merge_decl.specs.Table.{added}
+use Rattle.name_tables.specs.Table.{added}
 use Rattle.revision_state.specs.LocalPlaces.{AreApart, AreBelow}
 use Rattle.revision_state.proofs.LocalPlaces.{apart_added, below_added, either}
 use Rattle.revision_state.proofs.bodies.enter.Goals as goal

@@ -1,6 +1,6 @@
 -- Answers of bind_next: the next parameter stands behind as many as there are locals, and past the last is none.
 use Rattle.std.proofs.Common.{◌≡◌, ◌∙◌, ◌++◌, ◌∷◌, [], length, get_or, sym, ap, arith}
-use Rattle.merge_decl.specs.Names.{Name}
+use Rattle.name_tables.specs.Names.{Name}
 use Rattle.revision_state.proofs.Callees.{next_bound, none_next}
 use Rattle.revision_state.proofs.lookup.bind_next.Goals as goal
 

@@ -1,7 +1,7 @@
 -- Loops of locals_of: the locals are those that the values taken so far give.
 use Rattle.std.proofs.Common.{◌≡◌, map}
 use Rattle.rev_syntax.specs.View.{parameter}
-use Rattle.merge_decl.specs.Definitions.{names_of}
+use Rattle.typed_programs.specs.Definitions.{names_of}
 use Rattle.revision_calculus.specs.Step.{locals_of}
 use Rattle.revision_state.proofs.lookup.locals_of.Given as goal
 

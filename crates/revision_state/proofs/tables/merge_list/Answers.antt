@@ -2,7 +2,7 @@
 use Rattle.std.proofs.Common.{ap, ◌∙◌}
 use Rattle.std.proofs.lemmas.Result.{IfOk-weaker}
 use Rattle.rev_syntax.specs.View.{program as whole}
-use Rattle.rev_types.specs.Layout.{variables}
+use Rattle.typed_programs.specs.Layout.{variables}
 use Rattle.revision_state.specs.Tables.{merges_in}
 use Rattle.revision_state.proofs.Merges.{merges_by_row}
 use Rattle.revision_state.proofs.tables.merge_list.Goals as goal

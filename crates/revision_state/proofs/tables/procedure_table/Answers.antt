@@ -2,7 +2,7 @@
 use Rattle.std.proofs.Common.{[], ap, ◌∙◌}
 use Rattle.std.proofs.lemmas.Result.{IfOk-weaker}
 use Rattle.rev_syntax.specs.View.{program as whole}
-use Rattle.merge_decl.specs.Table.{find}
+use Rattle.name_tables.specs.Table.{find}
 use Rattle.revision_state.specs.Tables.{entered, proc_at}
 use Rattle.revision_state.proofs.Rows.{procedures_entered}
 use Rattle.revision_state.proofs.tables.procedure_table.Goals as goal

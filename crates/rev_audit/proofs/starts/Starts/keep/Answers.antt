@@ -3,8 +3,8 @@ use Rattle.std.proofs.Common.{◌≡◌, ◌∙◌, ap, arith, length, subst, sy
 use Rattle.std.proofs.lemmas.Option.{slice_get_within}
 use Rattle.revision_state.specs.Views.{given}
 use Rattle.rev_audit.specs.Sweep.{Grows, Holds, IsStarts, sooner_of}
-use Rattle.rev_audit.proofs.Accepted.{accepted}
-use Rattle.rev_audit.proofs.Finding.{found_part, lost_part}
+use Rattle.stated_parts.proofs.Accepted.{accepted}
+use Rattle.stated_parts.proofs.Finding.{found_part, lost_part}
 use Rattle.rev_audit.proofs.Sweeps.{keep_stated, keep_unstated, sooner_here, sooner_kept, sooner_which}
 use Rattle.rev_audit.proofs.starts.Starts.keep.Goals as goal
 

@@ -1,7 +1,7 @@
 -- Answers of Starts::keep_all: the child that is popped is kept, and what the starts held they still hold.
 use Rattle.std.proofs.Common.{inl, [], ◌∷◌, refl, subst, sym, ◌≡◌, arith, length}
-use Rattle.merge_decl.specs.Least.{Among}
-use Rattle.merge_decl.proofs.Firsts.{left_among, right_among}
+use Rattle.typed_programs.specs.Least.{Among}
+use Rattle.typed_programs.proofs.Firsts.{left_among, right_among}
 use Rattle.revision_state.specs.Views.{given}
 use Rattle.rev_audit.proofs.Sweeps.{grows_both, grows_none, hold_all, hold_more}
 use Rattle.rev_audit.proofs.starts.Starts.keep_all.Goals as goal

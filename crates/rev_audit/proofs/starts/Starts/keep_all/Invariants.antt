@@ -1,6 +1,6 @@
 -- Loops of Starts::keep_all: each child is still to be kept or is held, each begins there, and the starts only grow.
 use Rattle.std.proofs.Common.{◌⊎◌, length}
-use Rattle.merge_decl.specs.Least.{Among}
+use Rattle.typed_programs.specs.Least.{Among}
 use Rattle.revision_state.specs.Views.{given}
 use Rattle.rev_audit.specs.Own.{BeginsAt}
 use Rattle.rev_audit.specs.Sweep.{Grows, Holds, IsStarts}

@@ -1,7 +1,7 @@
 -- Answers of Locals::find: a name among what was passed is found there, and any other is looked for behind it.
 use Rattle.std.proofs.Common.{◌∙◌, ap, sym, map}
 use Rattle.rev_syntax.specs.View.{parameter}
-use Rattle.merge_decl.specs.Definitions.{names_of}
+use Rattle.typed_programs.specs.Definitions.{names_of}
 use Rattle.rev_evaluator.specs.Locals.{local}
 use Rattle.rev_evaluator.specs.Seen.{seen}
 use Rattle.rev_evaluator.proofs.Bindings.{found_behind, found_passed}

@@ -1,8 +1,8 @@
 -- Answers of Locals::place: the table has for the number of a name the place of its first local.
 use Rattle.std.proofs.Common.{◌∙◌, sym, ap, arith, position}
 use Rattle.std.proofs.lemmas.Option.{get_or_from_slice_get, slice_get_within}
-use Rattle.merge_decl.specs.Names.{same}
-use Rattle.merge_decl.specs.Table.{find}
+use Rattle.name_tables.specs.Names.{same}
+use Rattle.name_tables.specs.Table.{find}
 use Rattle.revision_state.specs.LocalCodes.{Bound}
 use Rattle.revision_state.specs.declared.body_names.BodyNames.{BodyNames}
 use Rattle.revision_state.proofs.locals.Locals.place.Goals as goal

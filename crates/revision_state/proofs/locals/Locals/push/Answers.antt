@@ -1,6 +1,6 @@
 -- Answers of Locals::push: the table notes a place only for a name that had none, so places stay the first ones.
 use Rattle.std.proofs.Common.{◌≡◌, ◌∙◌, ◌++◌, ◌∷◌, [], length, sym, ap, subst}
-use Rattle.merge_decl.specs.Table.{find}
+use Rattle.name_tables.specs.Table.{find}
 use Rattle.revision_state.specs.LocalCodes.{Bound}
 use Rattle.revision_state.specs.LocalPlaces.{AreKnown, IsPlaced, noted}
 use Rattle.revision_state.specs.declared.body_names.BodyNames.{BodyNames}

@@ -1,6 +1,6 @@
 -- Answers of Locals::set: a name with a place has its local changed, and one without is added at the end.
 use Rattle.std.proofs.Common.{◌∙◌, sym, ap, set, position}
-use Rattle.merge_decl.specs.Names.{same}
+use Rattle.name_tables.specs.Names.{same}
 use Rattle.revision_calculus.specs.Evaluation.{with_local}
 use Rattle.revision_state.specs.LocalCodes.{Bound}
 use Rattle.revision_state.proofs.Bindings.{changed, added}

@@ -1,0 +1,20 @@
+-- Answers of check: a text that is at fault leaves with its first fault, and a checked program is accepted.
+use Rattle.rev_syntax.specs.View.{program as whole}
+use Rattle.typed_programs.specs.declared.typed.Typed.{Typed}
+use Rattle.rev_report.specs.Report.{output}
+use Rattle.mode_reports.specs.Answer.{Accepts, SaysAs}
+use Rattle.mode_reports.specs.Texts.{Checks}
+use Rattle.mode_reports.proofs.Stages.{goes_on, leaves}
+use Rattle.mode_reports.proofs.checks.check.Goals as goal
+
+pub returns-in_err-typed : goal.returns-in_err-typed
+unfolding SaysAs
+returns-in_err-typed c =
+    leaves (Checks c.args.text.now) Accepts (λ (t : Typed). whole t.expanded.program) output
+    _ c.in_err-typed.field-0.0 c.from_residual.ensures.1 c.in_err-typed.ensures
+
+pub returns : goal.returns
+unfolding SaysAs
+returns c =
+    goes_on (Checks c.args.text.now) Accepts output
+    (whole c.in_ok-typed.typed.expanded.program) c.accept.result c.in_ok-typed.ensures c.accept.ensures

@@ -1,0 +1,3 @@
+-- Definitions of name_tables: names, and tables from names to values.
+pub mod Names
+pub mod Table
