@@ -19,7 +19,8 @@ use Rattle.turn_hub.specs.Answers.{EndedOn, EndStepSays, JoinSays, OnwardSays, W
 use Rattle.hub_workers.specs.declared.legs.LegEvent.TheVariants as event
 use Rattle.hub_workers.specs.Legs.{IsReached, HaveMet, Comes, IsEndBy, IsSameHand}
 use Rattle.hub_workers.specs.Nexts.{of_onward, of_step}
-use Rattle.hub_workers.specs.Work.{IsHandOf, StandsAtFork, HasMetOnce, HasAnswer, HasNext}
+use Rattle.hub_workers.specs.Work.{IsHandOf, HasMetOnce, HasAnswer, HasNext}
+use Rattle.hub_workers.specs.declared.next.Behind.TheVariants as behind
 use Rattle.hub_workers.specs.declared.next.Next.{Next}
 
 module _ {H L : Type 0} (begins : H → L → Type 0) (group : H → List ℕ) where
@@ -47,7 +48,7 @@ module _ {L R A E C S : Type 0} (d : HubMachine L R A E) (ends : E → L → Typ
     (claimed : C → A → E → Type 0) (stopped : S → A → E → Type 0) (group : C → List ℕ)
     (halted : S → List ℕ) where
   abbrev Answers : View L → ℕ → JoinAnswer A C S → Type 0
-  Answers = HasAnswer d ends claimed stopped group halted
+  Answers v k = HasAnswer d ends claimed stopped group halted v k behind.Nothing
 
   abbrev Nexts : View L → Next R A C S → Type 0
   Nexts = HasNext d ends claimed stopped group halted
@@ -62,7 +63,7 @@ module _ {L R A E C S : Type 0} (d : HubMachine L R A E) (ends : E → L → Typ
       (took.keeps.0, ((a, e, h.2.1, h.2.2, (found, h.2.3), took.state), h.1))
   joined_as v w said found k a join.Waits of h = (h.keeps.0, tt)
   joined_as v w said found k a (join.Twice b) of h =
-      (h.1.keeps.0, ap d.joiner_group h.0 ∙ (of ∙ sym h.1.keeps.0.1))
+      (h.1.keeps.0, (ap d.joiner_group h.0 ∙ (of ∙ sym h.1.keeps.0.1), tt))
   joined_as v w said found k a (join.Trapped s) of h =
       let e = h.3.0 in let took = h.3.4 in
       (took.keeps.0, ((a, e, h.3.1, h.3.2, h.1, (found, h.3.3), took.state), h.2))
@@ -80,7 +81,7 @@ module _ {L R A E C S : Type 0} (d : HubMachine L R A E) (ends : E → L → Typ
         ),
       )
   joined_as v w said found k a (join.OutOfMemory b) of h =
-      (h.1.keeps.0, ap d.joiner_group h.0 ∙ (of ∙ sym h.1.keeps.0.1))
+      (h.1.keeps.0, (ap d.joiner_group h.0 ∙ (of ∙ sym h.1.keeps.0.1), tt))
 
   onward_as :
       (said : List Said) (v w : View L) (n : Onward R A) → OnwardSays d ends said v w n
@@ -201,19 +202,18 @@ module _ {L R A E : Type 0} (d : HubMachine L R A E) (ends : E → L → Type 0)
           },
         )
 
-  module _ {F : Type 0} (forker : F → ℕ → L) (child : F → L) where
-    abbrev pub forks_leg :
-        (v : View L) (k : ℕ) (at : F) (c : R) → StandsAtFork d ends forker child v k at
-        → d.runs c ≡ child at → HasFork d ends v k c
-    forks_leg v k at c s is = (
-      s.1.0,
-      s.1.1,
-      s.1.2,
-      s.1.3,
-      record {
-        state = s.0;
-        forker = forker at;
-        stands = s.1.4;
-        bears = s.2 ∙ ap (Bears (forker at)) (sym is);
-      },
-    )
+  abbrev pub forks_leg :
+      (v : View L) (k : ℕ) (l : L) (c : R) (forker : ℕ → L) → HasState d ends v k l
+      → d.next l ≡ Bears forker (d.runs c) → HasFork d ends v k c
+  forks_leg v k l c forker s bears = (
+    s.0,
+    s.1,
+    s.2,
+    s.3,
+    record {
+      state = l;
+      forker = forker;
+      stands = s.4;
+      bears = bears;
+    },
+  )

@@ -21,6 +21,7 @@ use Rattle.turn_hub.specs.declared.answers.Onward.TheVariants as onward
 use Rattle.turn_hub.specs.Answers.{EndedOn, EndStepSays, IsHalted, JoinSays, OnwardSays, WaitedOn}
 use Rattle.hub_workers.specs.Handed.{HasHandedIn, IsAlone, OnlyAnswer, OnlyNext}
 use Rattle.hub_workers.specs.Nexts.{of_onward, of_step}
+use Rattle.hub_workers.specs.declared.next.Behind.TheVariants as behind
 use Rattle.hub_workers.specs.declared.next.Next.{Next}
 
 twice_halts : Twice ≡ All → ⊥
@@ -69,7 +70,7 @@ module _ {L R A E C S : Type 0} (d : HubMachine L R A E) (ends : E → L → Typ
   joined_only :
       (v w : View L) (said : List Said) (found : List ℕ) (k : ℕ) (a : A) (r : JoinAnswer A C S)
       → JoinSays d ends claimed stopped group halted v (sees said found w) k a r → IsAlone v k
-      → OnlyAnswer w k r
+      → OnlyAnswer {R = R} w k behind.Nothing r
   joined_only v w said found k a (join.Claimed c) h alone = let took = h.2.4 in only_other v w k took.keeps alone
   joined_only v w said found k a join.Waits h alone = all_in v w k h.keeps h.gone alone
   joined_only v w said found k a (join.Twice b) h alone = λ free. absurd (twice_halts (sym h.1.halt ∙ free))
@@ -113,5 +114,6 @@ module _ {L R A E C S : Type 0} (d : HubMachine L R A E) (ends : E → L → Typ
 
   pub came_only :
       (v w : View L) (k : ℕ) (a : A) (r : JoinAnswer A C S)
-      → JoinSays d ends claimed stopped group halted v w k a r → IsAlone v k → OnlyAnswer w k r
+      → JoinSays d ends claimed stopped group halted v w k a r → IsAlone v k
+      → OnlyAnswer {R = R} w k behind.Nothing r
   came_only v w k a r h alone = joined_only v w w.said w.found k a r h alone

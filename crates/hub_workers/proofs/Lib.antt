@@ -3,4 +3,5 @@ pub mod Events
 pub mod Handed
 pub mod Owing
 pub mod Children
+pub mod Behinds
 pub mod Rows

@@ -6,22 +6,19 @@ use Rattle.revision_machine.specs.Numbered.{Bears, put_number}
 use Rattle.revision_machine.proofs.Paths.{some_inj}
 use Rattle.hub_core.specs.Replay.{state_after}
 use Rattle.hub_core.specs.HubMachine.{HubMachine, numbered}
-use Rattle.hub_core.specs.declared.state.HubState.TheVariants.{All}
 use Rattle.hub_core.specs.declared.view.Said.TheVariants as mark
 use Rattle.hub_core.specs.declared.view.View.{View}
 use Rattle.hub_core.specs.Passes.{IsPass}
-use Rattle.hub_core.specs.Seats.{HasState, HasFork, HasJoin, HasEnd, HasTrap, IsSameSeat, KeepsOthers, LacksPass, Owes}
+use Rattle.hub_core.specs.Seats.{HasPass, HasState, HasJoin, HasEnd, HasTrap, IsSameSeat, KeepsOthers, LacksPass}
 use Rattle.hub_core.specs.Views.{sees}
 use Rattle.hub_core.proofs.Worlds.{claimed}
-use Rattle.turn_hub.specs.declared.answers.JoinAnswer.{JoinAnswer}
-use Rattle.turn_hub.specs.declared.answers.JoinAnswer.TheVariants as join
-use Rattle.turn_hub.specs.Answers.{Forked, ForkedBehind, HaltedBehind, IsHalted, Settled, TakesIn, TookJoinee, Waited}
+use Rattle.turn_hub.specs.Answers.{Forked, ForkedBehind, HaltedBehind, IsHalted, Settled, TookJoinee, Waited}
 use Rattle.hub_workers.specs.declared.legs.LegEvent.TheVariants as event
-use Rattle.hub_workers.specs.Legs.{IsReached, Comes, IsEndBy, EndsHere}
+use Rattle.hub_workers.specs.Legs.{IsReached, Comes, EndsHere}
 use Rattle.hub_workers.specs.Work.{IsHandOf, HasMetOnce, StaysFor, IsOwing}
 use Rattle.hub_workers.specs.Handed.{HasHandedIn, IsAlone, IsPair}
-use Rattle.hub_workers.proofs.Events.{ends_leg, traps_join}
-use Rattle.hub_workers.proofs.Handed.{awake, only_other, all_in, unless_halted}
+use Rattle.hub_workers.proofs.Events.{ends_leg, forks_leg, traps_join}
+use Rattle.hub_workers.proofs.Handed.{awake, only_other, unless_halted}
 
 module _ {L : Type 0} where
   -- where the seat had one revision, it has that and the one that it took
@@ -55,9 +52,10 @@ module _ {L : Type 0} where
       of ne (inr e) = absurd (ne e)
 
 module _ {L R A E : Type 0} (d : HubMachine L R A E) (ends : E → L → Type 0) where
-  join_kept : (v w : View L) (n k : ℕ) (a : A) → KeepsOthers v w n → k ≢ n → HasJoin d ends v k a
-      → HasJoin d ends w k a
-  join_kept v w n k a keeps apart q = (q.0, q.1, keeps.0.0 ∙ q.2, keeps.1 k q.1 apart q.3, q.4)
+  -- of another revision the seat has the same pass
+  pub pass_kept : (P : L → List ℕ → Type 0) (v w : View L) (n k : ℕ) → KeepsOthers v w n → k ≢ n
+      → HasPass d ends v k P → HasPass d ends w k P
+  pass_kept P v w n k keeps apart q = (q.0, q.1, keeps.0.0 ∙ q.2, keeps.1 k q.1 apart q.3, q.4)
 
   -- the joinee is with the seat that its joiner stays with
   pub joinee_stays : {v w : View L} (n k : ℕ) {a b : A} {r : R} → HasJoin d ends v k a → d.joiner_group a ≡ v.group
@@ -70,7 +68,7 @@ module _ {L R A E : Type 0} (d : HubMachine L R A E) (ends : E → L → Type 0)
         took.ran.state,
         took.ran.group,
         record {
-          joins = subst (HasJoin d ends w k) (sym same) (join_kept v w n k a keeps apart event);
+          joins = subst (HasJoin d ends w k) (sym same) (pass_kept _ v w n k keeps apart event);
           on = ap d.on same ∙ sym took.joinee;
           apart = apart;
           group = ap d.joiner_group same ∙ (group ∙ sym keeps.0.1);
@@ -86,7 +84,7 @@ module _ {L R A E : Type 0} (d : HubMachine L R A E) (ends : E → L → Type 0)
   pub fork_stays : (v w : View L) (n k m : ℕ) (a : A) (c : R) → StaysFor d ends v n k a → Forked d ends v w n c m
       → StaysFor d ends w n k a
   fork_stays v w n k m a c stays forked = record {
-    joins = join_kept v w n k a forked.keeps stays.apart stays.joins;
+    joins = pass_kept _ v w n k forked.keeps stays.apart stays.joins;
     on = stays.on;
     apart = stays.apart;
     group = stays.group ∙ sym forked.keeps.0.1;
@@ -94,16 +92,17 @@ module _ {L R A E : Type 0} (d : HubMachine L R A E) (ends : E → L → Type 0)
   }
 
   -- the joiner is handed in
-  pub own_join : (v w : View L) (n k : ℕ) (a own : A) → StaysFor d ends v n k a → Waited d ends v w k a
-      → HasJoin d ends v n own → HasJoin d ends w n own
-  own_join v w n k a own stays waited q = join_kept v w k n own waited.keeps (λ e. stays.apart (sym e)) q
+  pub left_state : (v w : View L) (n k : ℕ) (l : L) (a : A) → StaysFor d ends v n k a → Waited d ends v w k a
+      → HasState d ends v n l → HasState d ends w n l
+  left_state v w n k l a stays waited s =
+      pass_kept _ v w k n waited.keeps (λ e. stays.apart (sym e)) s
 
   pub left_alone : (v w : View L) (n k : ℕ) (a : A) → Waited d ends v w k a → IsPair v n k → IsAlone w n
   left_alone v w n k a waited pair = second_in v w n k waited.keeps waited.gone pair
 
-  pub has_joinee : (v : View L) (n k : ℕ) (a own : A) → StaysFor d ends v n k a → HasJoin d ends v n own
+  pub has_joinee : (v : View L) (n k : ℕ) (l : L) (a : A) → StaysFor d ends v n k a → HasState d ends v n l
       → (found : List ℕ) × IsPass v.passes (d.on a) found
-  has_joinee v n k a own stays q = (q.1, subst (λ i. IsPass v.passes i q.1) (sym stays.on) q.3)
+  has_joinee v n k l a stays s = (s.1, subst (λ i. IsPass v.passes i s.1) (sym stays.on) s.3)
 
   -- the joiner takes the end in
   pub met_once : (v : View L) (n k : ℕ) (a : A) (e : E) → StaysFor d ends v n k a → HasEnd d ends v n e
@@ -138,9 +137,6 @@ module _ {L R A E : Type 0} (d : HubMachine L R A E) (ends : E → L → Type 0)
     );
   }
 
-  pub owing_as : (v : View L) (n k : ℕ) (l l' : L) → IsOwing d ends v n k l → l' ≡ l → IsOwing d ends v n k l'
-  owing_as v n k l l' o is = subst (IsOwing d ends v n k) (sym is) o
-
   pub reached_owing : {H : Type 0} → (begins : H → L → Type 0) (group : H → List ℕ) (v : View L) (m k : ℕ) (l : L) (h : H)
       → IsOwing d ends v m k l → IsHandOf begins group v h → IsReached d (begins h) l
   reached_owing begins group v m k l h o of = record {
@@ -158,6 +154,11 @@ module _ {L R A E : Type 0} (d : HubMachine L R A E) (ends : E → L → Type 0)
   pub settled_same : (v w : View L) (m k : ℕ) (l : L) → Settled d ends v w m k l → IsSameSeat v w
   settled_same v w m k l s =
       let a = s.ended.keeps.0 in let b = s.took.keeps.0 in (b.0 ∙ a.0, b.1 ∙ a.1, b.2 ∙ a.2)
+
+  pub settled_or_not : (v w : View L) (m k : ℕ) (l : L) (b : Bool) → (b ≡ true → Settled d ends v w m k l)
+      → (b ≡ false → IsHalted v w) → IsSameSeat v w
+  settled_or_not v w m k l true done halted = settled_same v w m k l (done refl)
+  settled_or_not v w m k l false done halted = (halted refl).keeps.0
 
   pub settled_alone : (v w : View L) (m k : ℕ) (l : L) → Settled d ends v w m k l → IsPair v m k → IsAlone w k
   settled_alone v w m k l s pair =
@@ -191,9 +192,7 @@ module _ {L R A E : Type 0} (d : HubMachine L R A E) (ends : E → L → Type 0)
   pub behind_state : (v w : View L) (m k n : ℕ) (l : L) (c : R) (forker : ℕ → L) → ForkedBehind d ends v w m k l c n
       → d.next l ≡ Bears forker (d.runs c) → HasState d ends w k (forker n)
   behind_state v w m k n l c forker f bears =
-      let s = settled_state v f.between m k l f.settled in
-      f.forked.forker
-      (s.0, s.1, s.2, s.3, record { state = l; forker = forker; stands = s.4; bears = bears })
+      f.forked.forker (forks_leg d ends f.between k l c forker (settled_state v f.between m k l f.settled) bears)
 
   pub behind_same : (v w : View L) (m k n : ℕ) (l : L) (c : R) → ForkedBehind d ends v w m k l c n → IsSameSeat v w
   behind_same v w m k n l c f =
@@ -215,11 +214,3 @@ module _ {L R A E : Type 0} (d : HubMachine L R A E) (ends : E → L → Type 0)
   pub halted_in : (v w : View L) (m k : ℕ) (l : L) → HaltedBehind d ends v w m k l → HasHandedIn w
   halted_in v w m k l (inl h) = unless_halted v w h
   halted_in v w m k l (inr h) = unless_halted h.0 (sees w.said h.0.log w) h.3
-
-  module _ {C S : Type 0} (claimed_by : C → A → E → Type 0) (stopped : S → A → E → Type 0) (group : C → List ℕ)
-      (halted : S → List ℕ) where
-    abbrev Takes : A → E → JoinAnswer A C S → Type 0
-    Takes = TakesIn d ends claimed_by stopped group halted
-
-    pub never_waits : {P : Type 0} (a : A) (e : E) → Takes a e join.Waits → P
-    never_waits a e h = absurd h

@@ -2,6 +2,7 @@
 --   IsReached    a state of a world to which a legal schedule leads
 --   HaveMet      a joiner and the end that it takes in, in one such world
 --   Comes        where the leg of a state leads
+--   ComesTo      the same, or the end of a state after its join
 --   IsSettled    what a joiner is in the state after its join
 --   IsEndBy      an end of a state, made by a join or by a leg
 --   EndsHere     an end of a state, or of the state to which its leg leads
@@ -56,6 +57,11 @@ module _ {L R A E : Type 0} (d : HubMachine L R A E) (ends : E → L → Type 0)
     Comes forker child l (event.Fork f) = d.next l ≡ Bears (forker f) (child f)
     Comes forker child l (event.Join a) = Stands (numbered d) (values d ends) a l
     Comes forker child l (event.End e) = (last : L) × (d.next l ≡ Goes last) × IsEndBy false e last
+
+    abbrev pub ComesTo : {F : Type 0} → (F → ℕ → L) → (F → L) → L → LegEvent F A E → Type 0
+    ComesTo forker child l (event.Fork f) = d.next l ≡ Bears (forker f) (child f)
+    ComesTo forker child l (event.Join a) = Stands (numbered d) (values d ends) a l
+    ComesTo forker child l (event.End e) = EndsHere e l
 
     abbrev pub IsSettled : L → SettledLeg R E → Type 0
     IsSettled l (settled.Run r) = d.runs r ≡ l

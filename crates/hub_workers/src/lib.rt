@@ -2,13 +2,16 @@
 #![tactic(auto)]
 
 mod bell;
+mod clearing;
+mod coming;
+mod entering;
 mod gate;
-mod keeping;
+mod giving;
 mod legs;
 mod next;
 mod running;
 mod scout;
-mod staying;
+mod stepping;
 mod threads;
 mod vectors;
 mod worker;

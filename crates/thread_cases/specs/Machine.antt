@@ -3,12 +3,12 @@ use Rattle.std.specs.Prelude.{[]}
 use Rattle.hub_core.specs.HubMachine.{HubMachine}
 use Rattle.thread_cases.specs.declared.going.Going.{Going}
 use Rattle.thread_cases.specs.declared.node.Node.{Node}
-use Rattle.thread_cases.specs.Tree.{next, forks_at, joined, joinee, outlives}
+use Rattle.thread_cases.specs.Tree.{next, joined, joinee, outlives}
 
 abbrev pub tree : HubMachine Node Going Node Node
 tree = record {
   next = next;
-  forks = λ l. forks_at l.stage;
+  forks = λ l. l.forks;
   join = λ l m lq. joined l lq;
   runs = λ r. r.node;
   on = joinee;

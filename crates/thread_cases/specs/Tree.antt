@@ -1,25 +1,23 @@
--- A tree of revisions as a machine by numbers. Each but the leaves forks two children and joins two revisions.
+-- A tree of revisions as a machine by numbers. Each but the leaves forks two children and joins two revisions, or the first
+-- one forks leaves in rounds, and joins them.
 --   next, joined   what a revision does next, and what a join makes of it
---   goes_on, is_early   it has not ended, or not forked both children
+--   goes_on, is_early   it has not ended, or may fork
 use Rattle.std.specs.Prelude.{◌≡◌, ℕ, ◌+◌, ◌-◌, ◌^◌, ◌==◌, min, Bool, true, false, cond}
 use Rattle.revision_machine.specs.Numbered.{Wish, Bears, Wants, Goes, Stops}
 use Rattle.thread_cases.specs.declared.node.Node.{Node}
 use Rattle.thread_cases.specs.declared.node.Way.{Way}
-use Rattle.thread_cases.specs.declared.node.Way.TheVariants.{Adds, Again, Traps, Tries}
+use Rattle.thread_cases.specs.declared.node.Way.TheVariants.{Adds, Again, Traps, Tries, Rounds, Strays}
 use Rattle.thread_cases.specs.declared.node.Stage.{Stage}
-use Rattle.thread_cases.specs.declared.node.Stage.TheVariants.{Begins, Forked, JoinsFirst, JoinsSecond, Ends, Over}
+use Rattle.thread_cases.specs.declared.node.Stage.TheVariants.{Begins, Forked, JoinsFirst, JoinsSecond, Between, Ends, Over}
 
-abbrev pub node : Way → ℕ → Stage → ℕ → ℕ → ℕ → Bool → Bool → Node
-node way depth stage first second leaves trapped by_join = record {
-  way = way;
-  depth = depth;
-  stage = stage;
-  first = first;
-  second = second;
-  leaves = leaves;
-  trapped = trapped;
-  by_join = by_join;
-}
+-- its first revision has rounds, and forks leaves alone
+abbrev pub has_rounds : Way → Bool
+has_rounds Adds = false
+has_rounds Again = false
+has_rounds Traps = false
+has_rounds Tries = false
+has_rounds Rounds = true
+has_rounds Strays = true
 
 -- the leaves of such a tree end by a trap
 abbrev pub leaf_traps : Way → Bool
@@ -27,6 +25,8 @@ leaf_traps Adds = false
 leaf_traps Again = false
 leaf_traps Traps = true
 leaf_traps Tries = true
+leaf_traps Rounds = false
+leaf_traps Strays = false
 
 -- a joiner in such a tree outlives a trap
 abbrev pub outlives : Way → Bool
@@ -34,34 +34,93 @@ outlives Adds = false
 outlives Again = false
 outlives Traps = false
 outlives Tries = true
+outlives Rounds = false
+outlives Strays = false
 
 abbrev pub root : Way → ℕ → Node
-root way depth = node way depth Begins 0 0 0 false false
+root way depth = record {
+  way = way;
+  depth = depth;
+  stage = Begins;
+  first = 0;
+  second = 0;
+  forks = 0;
+  leaves = 0;
+  trapped = false;
+  by_join = false;
+}
 
 -- what it forks
 abbrev pub child_of : Node → Node
-child_of l = root l.way (l.depth - 1)
+child_of l = root l.way (cond (has_rounds l.way) 0 (l.depth - 1))
+
+-- behind a round
+abbrev pub next_round : Node → Node
+next_round l = record l { depth = l.depth - 1; stage = Between }
+
+-- once it knows the number of a leaf that strays: it joins the one before, where there is one
+abbrev pub strayed : Node → ℕ → Node
+strayed l n =
+    cond (l.second == 0) (next_round (record l { first = l.second; second = n }))
+    (record l { first = l.second; second = n; stage = JoinsSecond })
+
+abbrev pub first_told : Way → Node → ℕ → Node
+first_told Adds l n = record l { first = n; stage = Forked }
+first_told Again l n = record l { first = n; stage = Forked }
+first_told Traps l n = record l { first = n; stage = Forked }
+first_told Tries l n = record l { first = n; stage = Forked }
+first_told Rounds l n = record l { first = n; stage = JoinsFirst }
+first_told Strays l n = record l { first = n; stage = JoinsFirst }
+
+abbrev pub second_told : Way → Node → ℕ → Node
+second_told Adds l n = record l { second = n; stage = JoinsFirst }
+second_told Again l n = record l { second = n; stage = JoinsFirst }
+second_told Traps l n = record l { second = n; stage = JoinsFirst }
+second_told Tries l n = record l { second = n; stage = JoinsFirst }
+second_told Rounds l n = record l { second = n; stage = JoinsFirst }
+second_told Strays l n = strayed l n
+
+abbrev pub counted : Node → Node
+counted l = record l { forks = min (l.forks + 1) (2 ^ 32 - 1) }
 
 -- the forker, once it knows its child's number
 abbrev pub told_at : Stage → Node → ℕ → Node
-told_at Begins l n = node l.way l.depth Forked n l.second l.leaves l.trapped l.by_join
-told_at Forked l n = node l.way l.depth JoinsFirst l.first n l.leaves l.trapped l.by_join
+told_at Begins l n = first_told l.way (counted l) n
+told_at Forked l n = second_told l.way (counted l) n
 told_at JoinsFirst l n = l
 told_at JoinsSecond l n = l
+told_at Between l n = first_told l.way (counted l) n
 told_at Ends l n = l
 told_at Over l n = l
 
 abbrev pub after_fork : Node → ℕ → Node
 after_fork l n = told_at l.stage l n
 
--- the stage after a join
-abbrev pub stage_after : Stage → Stage
-stage_after Begins = Ends
-stage_after Forked = Ends
-stage_after JoinsFirst = JoinsSecond
-stage_after JoinsSecond = Ends
-stage_after Ends = Ends
-stage_after Over = Ends
+-- behind the join of its first child, and behind another join
+abbrev pub first_joined : Way → Node → Node
+first_joined Adds l = record l { stage = JoinsSecond }
+first_joined Again l = record l { stage = JoinsSecond }
+first_joined Traps l = record l { stage = JoinsSecond }
+first_joined Tries l = record l { stage = JoinsSecond }
+first_joined Rounds l = next_round l
+first_joined Strays l = record l { stage = Forked }
+
+abbrev pub second_joined : Way → Node → Node
+second_joined Adds l = record l { stage = Ends }
+second_joined Again l = record l { stage = Ends }
+second_joined Traps l = record l { stage = Ends }
+second_joined Tries l = record l { stage = Ends }
+second_joined Rounds l = next_round l
+second_joined Strays l = next_round l
+
+abbrev pub behind_join : Stage → Node → Node
+behind_join Begins l = second_joined l.way l
+behind_join Forked l = second_joined l.way l
+behind_join JoinsFirst l = first_joined l.way l
+behind_join JoinsSecond l = second_joined l.way l
+behind_join Between l = second_joined l.way l
+behind_join Ends l = second_joined l.way l
+behind_join Over l = second_joined l.way l
 
 -- the number that it joins
 abbrev pub joinee_at : Stage → Way → Node → ℕ
@@ -69,9 +128,12 @@ joinee_at JoinsSecond Adds l = l.second
 joinee_at JoinsSecond Again l = l.first
 joinee_at JoinsSecond Traps l = l.second
 joinee_at JoinsSecond Tries l = l.second
+joinee_at JoinsSecond Rounds l = l.first
+joinee_at JoinsSecond Strays l = l.first
 joinee_at Begins way l = l.first
 joinee_at Forked way l = l.first
 joinee_at JoinsFirst way l = l.first
+joinee_at Between way l = l.first
 joinee_at Ends way l = l.first
 joinee_at Over way l = l.first
 
@@ -79,23 +141,23 @@ abbrev pub joinee : Node → ℕ
 joinee l = joinee_at l.stage l.way l
 
 abbrev pub outlived : Node → Node
-outlived l = node l.way l.depth (stage_after l.stage) l.first l.second l.leaves l.trapped l.by_join
+outlived l = behind_join l.stage l
 
 -- it takes the leaves in, or outlives the trap of its joinee, or is trapped by it
 abbrev pub joined : Node → Node → Node
 joined l e = cond e.trapped
-    (cond (outlives l.way) (outlived l)
-    (node l.way l.depth Over l.first l.second l.leaves true true))
-    (node l.way l.depth (stage_after l.stage) l.first l.second (min (l.leaves + e.leaves) (2 ^ 32 - 1)) l.trapped l.by_join)
+    (cond (outlives l.way) (outlived l) (record l { stage = Over; trapped = true; by_join = true }))
+    (record (outlived l) { leaves = min (l.leaves + e.leaves) (2 ^ 32 - 1) })
 
 -- the end of its last leg: a leaf counts itself
 abbrev pub ended_at : Stage → Node → Node
-ended_at Begins l = node l.way l.depth Over l.first l.second 1 (leaf_traps l.way) false
-ended_at Forked l = node l.way l.depth Over l.first l.second l.leaves l.trapped false
-ended_at JoinsFirst l = node l.way l.depth Over l.first l.second l.leaves l.trapped false
-ended_at JoinsSecond l = node l.way l.depth Over l.first l.second l.leaves l.trapped false
-ended_at Ends l = node l.way l.depth Over l.first l.second l.leaves l.trapped false
-ended_at Over l = node l.way l.depth Over l.first l.second l.leaves l.trapped false
+ended_at Begins l = record l { stage = Over; leaves = 1; trapped = leaf_traps l.way; by_join = false }
+ended_at Forked l = record l { stage = Over; by_join = false }
+ended_at JoinsFirst l = record l { stage = Over; by_join = false }
+ended_at JoinsSecond l = record l { stage = Over; by_join = false }
+ended_at Between l = record l { stage = Over; by_join = false }
+ended_at Ends l = record l { stage = Over; by_join = false }
+ended_at Over l = record l { stage = Over; by_join = false }
 
 abbrev pub ended : Node → Node
 ended l = ended_at l.stage l
@@ -105,20 +167,12 @@ next_at Begins l = cond (l.depth == 0) (Goes (ended l)) (Bears (after_fork l) (c
 next_at Forked l = Bears (after_fork l) (child_of l)
 next_at JoinsFirst l = Wants (joinee l)
 next_at JoinsSecond l = Wants (joinee l)
+next_at Between l = cond (l.depth == 0) (Goes (ended l)) (Bears (after_fork l) (child_of l))
 next_at Ends l = Goes (ended l)
 next_at Over l = Stops
 
 abbrev pub next : Node → Wish Node
 next l = next_at l.stage l
-
--- how often it has forked
-abbrev pub forks_at : Stage → ℕ
-forks_at Begins = 0
-forks_at Forked = 1
-forks_at JoinsFirst = 2
-forks_at JoinsSecond = 2
-forks_at Ends = 2
-forks_at Over = 2
 
 -- an end is the state in which its revision ended
 abbrev pub is_end : Node → Node → Type 0
@@ -130,14 +184,16 @@ goes_on Begins = true
 goes_on Forked = true
 goes_on JoinsFirst = true
 goes_on JoinsSecond = true
+goes_on Between = true
 goes_on Ends = true
 goes_on Over = false
 
--- it has not forked both children
+-- it may fork
 abbrev pub is_early : Stage → Bool
 is_early Begins = true
 is_early Forked = true
 is_early JoinsFirst = false
 is_early JoinsSecond = false
+is_early Between = true
 is_early Ends = false
 is_early Over = false

@@ -23,7 +23,7 @@ fn next_event(runner: Going) -> LegEvent<Forking, Node, Node>
 {
     let node = runner.node;
     match node.stage {
-        Stage::Begins => {
+        Stage::Begins | Stage::Between => {
             if node.depth == 0 {
                 LegEvent::End(node.ended())
             } else {

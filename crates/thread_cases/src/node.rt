@@ -1,6 +1,8 @@
 //! A tree of revisions: what one of them is, and its next event.
-ghost use Rattle.std.specs.Prelude.{◌≡◌};
-ghost use Rattle.thread_cases.specs.Tree.{root, child_of, after_fork, joinee, outlived, joined, ended};
+ghost use Rattle.std.specs.Prelude.{◌≡◌, true, false};
+ghost use Rattle.thread_cases.specs.Tree.{root, child_of, after_fork, strayed, joinee};
+ghost use Rattle.thread_cases.specs.Tree.{goes_on, has_rounds, is_early, next_round, outlived};
+ghost use Rattle.thread_cases.specs.Tree.{joined, ended};
 
 /// What the leaves and the other revisions of a tree do.
 #[derive(Clone, Copy, PartialEq, Eq, Debug)]
@@ -13,6 +15,23 @@ pub enum Way {
     Traps,
     /// The leaves end by a trap, and each joiner outlives that.
     Tries,
+    /// In each round the first revision forks a leaf and joins it.
+    Rounds,
+    /// The same, and behind that join it forks another leaf. It joins that in the next round,
+    /// behind the fork of the next such leaf, and so it never joins the last.
+    Strays,
+}
+
+impl Way {
+    /// Whether the first revision has rounds, and forks leaves alone.
+    pub fn has_rounds(self) -> bool
+        ensures { result ≡ has_rounds self }
+    {
+        match self {
+            Way::Adds | Way::Again | Way::Traps | Way::Tries => false,
+            Way::Rounds | Way::Strays => true,
+        }
+    }
 }
 
 /// How far a revision is.
@@ -24,16 +43,18 @@ pub enum Stage {
     Forked,
     /// It is about to join its first child.
     JoinsFirst,
-    /// It is about to join its second.
+    /// It is about to join its second, or its first once more, or the one that strays.
     JoinsSecond,
+    /// It is behind a round, and is about to fork, or to end behind the last.
+    Between,
     /// It is about to end.
     Ends,
     /// It has ended.
     Over,
 }
 
-/// A revision with so many generations below it. It counts the leaves that it took in, up to
-/// 2^32 - 1.
+/// A revision with so many generations below it, or so many rounds before it. It counts its forks,
+/// and the leaves that it took in, up to 2^32 - 1.
 #[derive(Clone, Copy, PartialEq, Eq, Debug)]
 pub struct Node {
     pub way: Way,
@@ -41,6 +62,7 @@ pub struct Node {
     pub stage: Stage,
     pub first: u32,
     pub second: u32,
+    pub forks: u32,
     pub leaves: u32,
     pub trapped: bool,
     pub by_join: bool,
@@ -57,6 +79,7 @@ impl Node {
             stage: Stage::Begins,
             first: 0,
             second: 0,
+            forks: 0,
             leaves: 0,
             trapped: false,
             by_join: false,
@@ -67,23 +90,68 @@ impl Node {
     pub fn child(self) -> Node
         ensures { result ≡ child_of self }
     {
+        if self.way.has_rounds() {
+            return Node::root(self.way, 0);
+        }
         Node::root(self.way, self.depth.saturating_sub(1))
+    }
+
+    // Behind a round.
+    fn next_round(self) -> Node
+        ensures { result ≡ next_round self }
+    {
+        Node {
+            depth: self.depth.saturating_sub(1),
+            stage: Stage::Between,
+            ..self
+        }
+    }
+
+    // Once it knows the number of a leaf that strays. That takes the place of the one before, which
+    // it joins next, where there is one.
+    fn strayed(self, number: u32) -> Node
+        ensures is { result ≡ strayed self number }
+        ensures goes { goes_on result.stage ≡ true }
+    {
+        let next = Node {
+            first: self.second,
+            second: number,
+            ..self
+        };
+        if self.second == 0 {
+            return next.next_round();
+        }
+        Node {
+            stage: Stage::JoinsSecond,
+            ..next
+        }
     }
 
     /// Once it knows its child's number.
     pub fn told(self, number: u32) -> Node
-        ensures { result ≡ after_fork self number }
+        ensures is { result ≡ after_fork self number }
+        ensures goes { is_early self.stage ≡ true → goes_on result.stage ≡ true }
     {
-        match self.stage {
-            Stage::Begins => Node {
+        let forked = Node {
+            forks: self.forks.saturating_add(1),
+            ..self
+        };
+        match (self.stage, self.way) {
+            (Stage::Begins | Stage::Between, Way::Rounds | Way::Strays) => Node {
+                first: number,
+                stage: Stage::JoinsFirst,
+                ..forked
+            },
+            (Stage::Begins | Stage::Between, _) => Node {
                 first: number,
                 stage: Stage::Forked,
-                ..self
+                ..forked
             },
-            Stage::Forked => Node {
+            (Stage::Forked, Way::Strays) => forked.strayed(number),
+            (Stage::Forked, _) => Node {
                 second: number,
                 stage: Stage::JoinsFirst,
-                ..self
+                ..forked
             },
             _ => self,
         }
@@ -91,10 +159,13 @@ impl Node {
 
     /// Once it has outlived the trap of its joinee.
     pub fn outlived(self) -> Node
-        ensures { result ≡ outlived self }
+        ensures is { result ≡ outlived self }
+        ensures goes { goes_on result.stage ≡ true }
     {
-        let stage = match self.stage {
-            Stage::JoinsFirst => Stage::JoinsSecond,
+        let stage = match (self.stage, self.way) {
+            (Stage::JoinsFirst, Way::Strays) => Stage::Forked,
+            (_, Way::Rounds | Way::Strays) => return self.next_round(),
+            (Stage::JoinsFirst, _) => Stage::JoinsSecond,
             _ => Stage::Ends,
         };
         Node { stage, ..self }
@@ -102,7 +173,8 @@ impl Node {
 
     /// Once it has taken in such an end.
     pub fn joined(self, end: Node) -> Node
-        ensures { result ≡ joined self end }
+        ensures is { result ≡ joined self end }
+        ensures goes { end.trapped ≡ false → goes_on result.stage ≡ true }
     {
         if !end.trapped {
             return Node {

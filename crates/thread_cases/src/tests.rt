@@ -150,3 +150,66 @@ fn a_run_finds_no_memory(rt: HostRuntime) -> Result<(), Fail> {
     assert!(rt; run.state() == HubState::NoMemory);
     Ok(())
 }
+
+// A thread that finds no other idle keeps each leaf but the first, and runs it at its join.
+#[test]
+fn rounds_join_each_leaf(rt: HostRuntime) -> Result<(), Fail> {
+    let first = Going::root(Way::Rounds, 3);
+    let run = run_tree(&rt, rt.alloc(), first, false, 99).ok_or("memory")?;
+    assert!(rt; run.schedule() == [0, 1, 0, 0, 2, 0, 0, 3, 0, 0].as_slice());
+    assert!(rt; run.state() == HubState::All);
+    assert_eq!(rt; leaves(run.ends()), 3);
+    Ok(())
+}
+
+// A leaf that is kept is handed back where its forker ends.
+#[test]
+fn the_last_leaf_is_handed_back(rt: HostRuntime) -> Result<(), Fail> {
+    let first = Going::root(Way::Strays, 1);
+    let run = run_tree(&rt, rt.alloc(), first, false, 99).ok_or("memory")?;
+    assert!(rt; run.schedule() == [0, 1, 0, 0, 0, 2].as_slice());
+    assert!(rt; has_end(run.ends(), 2));
+    assert_eq!(rt; leaves(run.ends()), 1);
+    Ok(())
+}
+
+// Leaf 2 is handed back where its forker forks again, and leaf 4 where that joins leaf 2.
+#[test]
+fn leaves_that_stray_are_handed_back(rt: HostRuntime) -> Result<(), Fail> {
+    let first = Going::root(Way::Strays, 2);
+    let run = run_tree(&rt, rt.alloc(), first, false, 99).ok_or("memory")?;
+    assert!(rt; run.schedule() == [0, 1, 0, 0, 0, 3, 0, 0, 4, 2, 0, 0].as_slice());
+    assert!(rt; run.state() == HubState::All);
+    assert_eq!(rt; leaves(run.ends()), 3);
+    Ok(())
+}
+
+#[test]
+fn one_thread_runs_many_rounds(rt: HostRuntime) -> Result<(), Fail> {
+    let first = Going::root(Way::Strays, 10_000);
+    let run = run_tree(&rt, rt.alloc(), first, false, 4_000_000_000).ok_or("memory")?;
+    assert_eq!(rt; run.schedule().len(), 60_000);
+    assert_eq!(rt; leaves(run.ends()), 19_999);
+    Ok(())
+}
+
+#[test]
+fn two_threads_run_rounds(rt: HostRuntime) -> Result<(), Fail> {
+    let first = Going::root(Way::Rounds, 20_000);
+    let run = run_tree(&rt, rt.alloc(), first, true, 4_000_000_000).ok_or("memory")?;
+    assert!(rt; run.state() == HubState::All);
+    assert_eq!(rt; run.schedule().len(), 60_001);
+    assert_eq!(rt; leaves(run.ends()), 20_000);
+    Ok(())
+}
+
+#[test]
+fn two_threads_hand_leaves_back(rt: HostRuntime) -> Result<(), Fail> {
+    let first = Going::root(Way::Strays, 10_000);
+    let run = run_tree(&rt, rt.alloc(), first, true, 4_000_000_000).ok_or("memory")?;
+    assert!(rt; run.state() == HubState::All);
+    assert_eq!(rt; run.ends().len(), 20_001);
+    assert_eq!(rt; run.schedule().len(), 60_000);
+    assert_eq!(rt; leaves(run.ends()), 19_999);
+    Ok(())
+}
