@@ -13,3 +13,4 @@ pub mod RowWords
 pub mod SharedKernels
 pub mod WordPairs
 pub mod RowRuns
+pub mod OneRuns

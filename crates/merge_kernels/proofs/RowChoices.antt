@@ -4,7 +4,7 @@ use Rattle.std.proofs.lemmas.Bool.Decides.{nat_tests}
 use Rattle.rev_num.proofs.Lists.{false_no}
 use Rattle.rev_syntax.proofs.Lists.{same-number}
 use Rattle.rev_syntax.specs.Trees.{Expression}
-use Rattle.std.specs.Prelude.{IfSome, MatchBool}
+use Rattle.std.specs.Prelude.{MatchBool}
 use Rattle.merge_kernels.specs.Equal.{equal}
 use Rattle.merge_kernels.proofs.Equality.{equal_is}
 use Rattle.merge_kernels.specs.Plans.{the_choice, choice_at, is_choice, have, if_all, row_choice, is_true, has_row, AreWithin, IsRowFor}
@@ -160,7 +160,3 @@ pub row_same : (choices : List (Option ℕ)) (kernels : List Expression) (first 
     → IsRowFor choices kernels first d
 row_same choices kernels first n d e same is at =
     row_for choices kernels first n d is (at ∙ ap Some (sym (equal_is d e same)))
-
-pub some_weaker : {A : Type 0} (o : Option A) (P Q : A → Type 0) → ((x : A) → P x → Q x) → IfSome o P → IfSome o Q
-some_weaker (Some x) P Q h p = h x p
-some_weaker None P Q h p = tt

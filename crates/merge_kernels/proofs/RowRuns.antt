@@ -1,7 +1,9 @@
 -- Eights of written locations, behind one another, that are merged by one definition.
 --   row_put       what was put of the values of eight triples of numbers is what was put of eight locations
 --   one_more      an eight more is put
+--   behind        an element behind some that are dropped
 --   fewer_follow  the first of locations that follow each other
+--   row_values    an equal definition has the values of fewer locations
 --   run_values    where one definition was chosen for a run of locations, their merges are its values
 use Rattle.std.proofs.Common.{◌≡◌, ◌∙◌, ap, sym, refl, ℕ, ℤ, zero, suc, ◌+◌, ◌<◌, ◌≤◌, true, List, [], ◌∷◌, length, take, drop, map, slice_get, Option, Some, option_map, option_and_then, arith}
 use Rattle.std.proofs.lemmas.List.{length-take}
@@ -12,11 +14,13 @@ use Rattle.version_map.specs.Composing.{Merges}
 use Rattle.version_map.specs.Following.{Follow}
 use Rattle.version_map.specs.Parts.{HasPut}
 use Rattle.version_map.proofs.RowParts.{eight_part, put_more}
+use Rattle.merge_kernels.specs.Equal.{equal}
 use Rattle.merge_kernels.specs.Lanes.{lanes_answer}
 use Rattle.merge_kernels.specs.Plans.{chosen_at, AreLike}
 use Rattle.merge_kernels.specs.Rows.{HasPutRow, HasPutValues, AreValues}
 use Rattle.merge_kernels.specs.Terms.{answer_of}
-use Rattle.merge_kernels.specs.Words.{merged_or, overlaid}
+use Rattle.merge_kernels.specs.Words.{merged, merged_or, overlaid}
+use Rattle.merge_kernels.proofs.Equality.{equal_is}
 use Rattle.merge_kernels.proofs.RowWords.{row_is}
 
 pub row_put : (e : Expression) (mains : List ℕ) (ws : List Written) (at : ℕ) (old new : List ℕ) (m j r : List ℤ)
@@ -30,7 +34,7 @@ row_put e mains ws at old new m j r em ej er (ints, is, put) = (
   put,
 )
 
-behind : (i k : ℕ) (ws : List Written) → slice_get (drop i ws) k ≡ slice_get ws (i + k)
+pub behind : (i k : ℕ) (ws : List Written) → slice_get (drop i ws) k ≡ slice_get ws (i + k)
 behind zero k ws = let e : k ≡ 0 + k = omega arith in ap (slice_get ws) e
 behind (suc i) k [] = refl
 behind (suc i) k (w ∷ ws) = let e : suc (i + k) ≡ suc i + k = omega arith in behind i k ws ∙ ap (slice_get (w ∷ ws)) e
@@ -46,6 +50,11 @@ later_follow ws at first n i follow room k w low is =
 
 pub fewer_follow : (ws : List Written) (first n m : ℕ) → Follow ws first n → m ≤ n → Follow ws first m
 fewer_follow ws first n m follow few k w low is = follow k w (omega (arith, few, low)) is
+
+pub row_values : (d e : Expression) (m : Merges ℕ) (first n few : ℕ) → equal d e ≡ true → AreValues e m first n → few ≤ n
+    → AreValues d m first few
+row_values d e m first n few same values less k low u v w =
+    values k (omega (arith, less, low)) u v w ∙ ap (λ x. merged x u v w) (sym (equal_is d e same))
 
 pub one_more : (e : Expression) (m : Merges ℕ) (mains : List ℕ) (ws : List Written) (at first n i : ℕ)
     (old mid new : List ℕ)

@@ -1,4 +1,4 @@
-//! Eights of written locations that a plan merges by one row.
+//! Runs of written locations that a plan merges by one kernel: by its row, or one by one.
 
 ghost use Rattle.std.specs.Prelude.{◌≡◌, ◌<◌, ◌≤◌, ◌+◌, ◌*◌, ℕ, drop, length, map};
 ghost use Rattle.version_map.specs.Ascending.{IsAscending};
@@ -9,16 +9,16 @@ ghost use Rattle.merge_kernels.specs.Rows.{AreValues};
 ghost use Rattle.merge_kernels.specs.Terms.{definition};
 ghost use Rattle.merge_kernels.specs.Words.{overlaid};
 
-use crate::kernel::RowKernel;
+use crate::kernel::{Kernel, RowKernel};
 use crate::plan::KernelPlan;
-use crate::words::put_by_row;
+use crate::words::{by_kernel, put_by_row};
 use version_map::{Written, follow};
 
 impl<'k> KernelPlan<'k> {
-    /// Puts the merges of eights of written locations from this place on, behind one another, and
-    /// tells of how many locations that is: as many as follow each other, have one kernel with a
-    /// row, and stand before an eight with a fault, as far as the plan knows. Others of the first
-    /// eight may be there too, so 0 says nothing.
+    /// Puts the merges of written locations from this place on, behind one another, and tells of how
+    /// many locations that is: as many as follow each other, have one kernel, and stand before the
+    /// first with a fault, as far as the plan knows. By a kernel with a row these are whole eights
+    /// before the first with a fault. Others may be there too, so 0 says nothing.
     pub fn merge_eights(
         &self,
         mains: &[u64],
@@ -37,11 +37,11 @@ impl<'k> KernelPlan<'k> {
             values.old values.new }
     {
         let first = written[at].location;
-        let Some(row) = self.row_of(first) else {
+        let Some(kernel) = self.at(first) else {
             return 0;
         };
         let many = following(written, at, first, self.level_from(first));
-        8 * put_eights(row, mains, written, at, many as usize / 8, values)
+        put_run(kernel, mains, written, at, many as usize, values)
     }
 }
 
@@ -61,6 +61,31 @@ fn following(written: &[Written], at: usize, first: u32, most: u32) -> u32
         }
     }
     0
+}
+
+/// Puts the merges of up to so many written locations from this place on by the definition of a
+/// kernel, and tells of how many: by its row, where it has one, or else one by one.
+fn put_run(
+    kernel: &Kernel,
+    mains: &[u64],
+    written: &[Written],
+    at: usize,
+    many: usize,
+    values: &mut [u64],
+) -> usize
+    requires mains { length mains.now ≡ length written.now }
+    requires values { length values.old ≡ length written.now }
+    requires inside { at + many ≤ length written.now }
+    ensures length { length values.new ≡ length values.old }
+    ensures most { result ≤ many }
+    ensures put { (merges : Merges ℕ) (first : ℕ) → Follow (drop at written.now) first many
+        → AreValues (definition kernel.now.def) merges first many
+        → HasPut merges mains.now written.now at result values.old values.new }
+{
+    match kernel.row() {
+        Some(row) => 8 * put_eights(row, mains, written, at, many / 8, values),
+        None => put_ones(kernel, mains, written, at, many, values),
+    }
 }
 
 /// Puts the merges of so many eights of written locations from this place on by the definition of a
@@ -88,4 +113,33 @@ fn put_eights(
         }
     }
     eights
+}
+
+/// Puts the merges of so many written locations from this place on by the definition of a kernel,
+/// one by one, up to the first that has a fault, and tells of how many.
+fn put_ones(
+    kernel: &Kernel,
+    mains: &[u64],
+    written: &[Written],
+    at: usize,
+    many: usize,
+    values: &mut [u64],
+) -> usize
+    requires mains { length mains.now ≡ length written.now }
+    requires values { length values.old ≡ length written.now }
+    requires inside { at + many ≤ length written.now }
+    ensures length { length values.new ≡ length values.old }
+    ensures most { result ≤ many }
+    ensures put { (merges : Merges ℕ) (first : ℕ) → Follow (drop at written.now) first many
+        → AreValues (definition kernel.now.def) merges first many
+        → HasPut merges mains.now written.now at result values.old values.new }
+{
+    for k in 0..many {
+        let w = written[at + k];
+        match by_kernel(kernel, mains[at + k], w.value, w.root) {
+            Ok(value) => values[at + k] = value,
+            Err(_) => return k,
+        }
+    }
+    many
 }

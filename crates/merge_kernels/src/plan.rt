@@ -116,19 +116,6 @@ impl<'k> KernelPlan<'k> {
         self.level[row].saturating_sub(first % 64)
     }
 
-    /// The row of the kernel that was chosen for this location, if it has one.
-    #[inline(always)]
-    pub(crate) fn row_of(&self, location: u32) -> Option<&RowKernel>
-        ensures { IfSome result (λ r. chosen_at self.now.choices.items
-            (map (λ k. definition k.def) self.now.kernels.now) location
-            ≡ Some (definition r.now.def)) }
-    {
-        match self.at(location) {
-            Some(kernel) => kernel.row(),
-            None => None,
-        }
-    }
-
     /// The same as `is_one_choice`, by a look at each of the eight.
     fn have_eight(&self, first: u32, n: u32) -> bool
         requires { choice_at self.now.choices.items first ≡ Some n }
