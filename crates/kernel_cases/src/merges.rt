@@ -51,13 +51,13 @@ impl<'k> MergeBy for PlanMerges<'k> {
         }
     }
 
-    fn merge_eights(
+    fn merge_run(
         &mut self,
         mains: &[u64],
         written: &[Written],
         at: usize,
         values: &mut [u64],
     ) -> usize {
-        self.plan.merge_eights(mains, written, at, values)
+        self.plan.merge_run(mains, written, at, values)
     }
 }

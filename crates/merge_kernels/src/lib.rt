@@ -2,7 +2,6 @@
 #![tactic(auto)]
 
 mod closing;
-mod eights;
 mod equal;
 mod finding;
 mod kernel;
@@ -10,6 +9,7 @@ mod lanes;
 mod laws;
 mod parameters;
 mod plan;
+mod runs;
 mod term;
 mod terms;
 mod three;

@@ -67,13 +67,13 @@ impl<'k, M: MergeBy> MergeBy for KernelMerges<'k, M> {
         }
     }
 
-    fn merge_eights(
+    fn merge_run(
         &mut self,
         mains: &[u64],
         written: &[Written],
         at: usize,
         values: &mut [u64],
     ) -> usize {
-        self.plan.merge_eights(mains, written, at, values)
+        self.plan.merge_run(mains, written, at, values)
     }
 }

@@ -66,10 +66,10 @@ pub trait MergeBy {
         Some(values)
     }
 
-    /// Puts the merges of eights of written locations from this place on, behind one another, as
-    /// far as it knows to merge them faster than by `merge_eight`, and tells of how many locations
+    /// Puts the merges of written locations from this place on, behind one another, as far as it
+    /// knows to merge them faster than by `merge_eight` or one by one, and tells of how many locations
     /// that is. By default there are none.
-    fn merge_eights(
+    fn merge_run(
         &mut self,
         mains: &[u64],
         written: &[Written],
@@ -133,8 +133,9 @@ pub fn compose<M: MergeBy>(
     Ok(())
 }
 
-/// Puts the new words of the next locations, and tells of how many. Eights that are merged at once
-/// go at once. Where this location is merged alone, up to eight go one by one with no question.
+/// Puts the new words of the next locations, and tells of how many. A run that the merges know goes
+/// first, or else an eight at once. Where this location is merged alone, up to eight go one by one
+/// with no question.
 fn compose_next<M: MergeBy>(
     mains: &[u64],
     written: &[Written],
@@ -154,9 +155,9 @@ fn compose_next<M: MergeBy>(
     ensures size { M.size merges.new ≡ M.size merges.old }
     ensures merges { M.merges merges.new ≡ M.merges merges.old }
 {
-    let eights = merges.merge_eights(mains, written, at, values);
-    if eights > 0 {
-        return Ok(eights);
+    let run = merges.merge_run(mains, written, at, values);
+    if run > 0 {
+        return Ok(run);
     }
     if !merges.row_at(written[at].location) {
         let many = (written.len() - at).min(8);

@@ -5,7 +5,7 @@ use Rattle.version_map.specs.declared.end.Written.{Written}
 use Rattle.version_map.proofs.RowParts.{none_put}
 use Rattle.merge_kernels.specs.Terms.{definition}
 use Rattle.merge_kernels.proofs.OneRuns.{location_more}
-use Rattle.merge_kernels.proofs.eights.put_ones.Goals as goal
+use Rattle.merge_kernels.proofs.runs.put_ones.Goals as goal
 
 abbrev no_entry : Written
 no_entry = record { location = 0; value = 0; root = 0 }

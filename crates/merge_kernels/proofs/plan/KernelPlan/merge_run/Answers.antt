@@ -1,4 +1,4 @@
--- Answers of KernelPlan::merge_eights: the definition that was chosen for the first was chosen for the run.
+-- Answers of KernelPlan::merge_run: the definition that was chosen for the first was chosen for the run.
 use Rattle.std.proofs.Common.{◌∙◌, ap, sym, map}
 use Rattle.std.specs.Prelude.{option_map}
 use Rattle.std.specs.Option.{option_copied}
@@ -6,7 +6,7 @@ use Rattle.version_map.proofs.RowParts.{none_put}
 use Rattle.merge_kernels.specs.Terms.{definition}
 use Rattle.merge_kernels.specs.Words.{overlaid}
 use Rattle.merge_kernels.proofs.RowRuns.{run_values}
-use Rattle.merge_kernels.proofs.plan.KernelPlan.merge_eights.Goals as goal
+use Rattle.merge_kernels.proofs.plan.KernelPlan.merge_run.Goals as goal
 
 pub returns-in_default-clause-put : goal.returns-in_default-clause-put
 returns-in_default-clause-put g c = λ inner.

@@ -5,7 +5,7 @@ use Rattle.version_map.specs.Following.{Follow}
 use Rattle.version_map.specs.Parts.{HasPut}
 use Rattle.merge_kernels.specs.Rows.{AreValues}
 use Rattle.merge_kernels.specs.Terms.{definition}
-use Rattle.merge_kernels.proofs.eights.put_eights.Given as goal
+use Rattle.merge_kernels.proofs.runs.put_eights.Given as goal
 
 abbrev pub invariant-loop-eight : goal.invariant-loop-eight
 invariant-loop-eight g l = (length l.values ≡ length l.initial.values)

@@ -2,7 +2,7 @@
 use Rattle.std.proofs.Common.{◌*◌, ◌/◌, drop, arith}
 use Rattle.merge_kernels.specs.Terms.{definition}
 use Rattle.merge_kernels.proofs.RowRuns.{fewer_follow, row_values}
-use Rattle.merge_kernels.proofs.eights.put_run.Goals as goal
+use Rattle.merge_kernels.proofs.runs.put_run.Goals as goal
 
 pub returns-in-Some-clause-put : goal.returns-in-Some-clause-put
 returns-in-Some-clause-put g c = λ merges first f v.

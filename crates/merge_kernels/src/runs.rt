@@ -19,7 +19,7 @@ impl<'k> KernelPlan<'k> {
     /// many locations that is: as many as follow each other, have one kernel, and stand before the
     /// first with a fault, as far as the plan knows. By a kernel with a row these are whole eights
     /// before the first with a fault. Others may be there too, so 0 says nothing.
-    pub fn merge_eights(
+    pub fn merge_run(
         &self,
         mains: &[u64],
         written: &[Written],

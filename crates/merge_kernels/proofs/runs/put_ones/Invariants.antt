@@ -5,7 +5,7 @@ use Rattle.version_map.specs.Following.{Follow}
 use Rattle.version_map.specs.Parts.{HasPut}
 use Rattle.merge_kernels.specs.Rows.{AreValues}
 use Rattle.merge_kernels.specs.Terms.{definition}
-use Rattle.merge_kernels.proofs.eights.put_ones.Given as goal
+use Rattle.merge_kernels.proofs.runs.put_ones.Given as goal
 
 abbrev pub invariant-loop-k : goal.invariant-loop-k
 invariant-loop-k g l = (length l.values ≡ length l.initial.values)

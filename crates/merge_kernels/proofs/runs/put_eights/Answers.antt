@@ -4,7 +4,7 @@ use Rattle.version_map.specs.Parts.{HasPut}
 use Rattle.version_map.proofs.RowParts.{none_put}
 use Rattle.merge_kernels.specs.Terms.{definition}
 use Rattle.merge_kernels.proofs.RowRuns.{one_more}
-use Rattle.merge_kernels.proofs.eights.put_eights.Goals as goal
+use Rattle.merge_kernels.proofs.runs.put_eights.Goals as goal
 
 pub loop-eight-init : goal.loop-eight-init
 loop-eight-init g c = (refl, λ m first f v. none_put m c.args.mains.now c.args.written.now c.args.at c.args.values.now)

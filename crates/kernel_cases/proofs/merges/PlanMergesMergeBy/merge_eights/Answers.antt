@@ -1,6 +1,0 @@
--- Answers of PlanMerges::merge_eights: what the plan puts stands beside any other merges, so beside the versioned ones.
-use Rattle.kernel_cases.specs.Versioned.{versioned}
-use Rattle.kernel_cases.proofs.merges.PlanMergesMergeBy.merge_eights.Goals as goal
-
-pub returns-clause-put : goal.returns-clause-put
-returns-clause-put g c = c.merge_eights.ensures.put versioned

@@ -1,5 +1,0 @@
--- Answers of KernelMerges::merge_eights: what the plan puts, it puts beside any other merges, so beside these.
-use Rattle.rev_workers.proofs.merges.KernelMergesMergeBy.merge_eights.Goals as goal
-
-pub returns-clause-put : goal.returns-clause-put
-returns-clause-put g c = c.merge_eights.ensures.put (g.M.MergeBy.merges c.args.self.now.inner)
