@@ -71,7 +71,8 @@ impl Bell {
         }
     }
 
-    /// What a thread remembers before it looks for work.
+    /// What a thread remembers before it looks for work. No clause rests on what it answers, which
+    /// only chooses whether a thread sleeps.
     pub fn heard(&self) -> u64 {
         self.rings.load(Ordering::SeqCst)
     }
@@ -86,7 +87,8 @@ impl Bell {
         }
     }
 
-    /// Whether a thread sleeps, or looks for work.
+    /// Whether a thread sleeps, or looks for work. No clause rests on what it answers, which only
+    /// chooses whether a forker keeps its child.
     pub fn has_idle(&self) -> bool {
         self.has_scout() || self.has_sleepers()
     }

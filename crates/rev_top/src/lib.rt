@@ -11,15 +11,15 @@ ghost use Rattle.rev_top.specs.Promises.{Keeps};
 ghost use Rattle.rev_top.specs.RanLaws.{RanSays};
 
 mod answer;
-mod deliver;
 mod endings;
+mod happening;
 mod law;
 mod made;
 mod runs;
 mod streams;
 
-use deliver::happen;
 pub use endings::out_of_memory;
+use happening::happen;
 use hub_workers::Gate;
 pub use law::{
     listing_law, load_law, one_answer, one_finding, ran_law, statuses, stream_law, trace_law,

@@ -1,7 +1,7 @@
 -- Answers of happen: words without a reading are refused, and nothing is taken from the source.
 use Rattle.rev_top.proofs.Steps.{takes_nothing}
 use Rattle.rev_top.proofs.StreamAnswers.{words_refused}
-use Rattle.rev_top.proofs.deliver.happen.Goals as goal
+use Rattle.rev_top.proofs.happening.happen.Goals as goal
 
 pub returns-in-Err-clause-happened : goal.returns-in-Err-clause-happened
 returns-in-Err-clause-happened g c =
