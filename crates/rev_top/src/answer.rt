@@ -16,9 +16,8 @@ use crate::made::Made;
 use crate::runs::{load, order, run};
 use hub_workers::Gate;
 use merge_kernels::Kernel;
-use mode_reports::{
-    FILE_LIMIT, SOURCE_LIMIT, Stop, audit, check, dis, emit, exec, repeat, replay, trace,
-};
+use mode_reports::sizes::{FILE_LIMIT, SOURCE_LIMIT};
+use mode_reports::{Stop, audit, check, dis, emit, exec, repeat, replay, trace};
 use rev_io::{Source, read_text};
 use rev_report::Report;
 use rev_words::{Mode, Words};
