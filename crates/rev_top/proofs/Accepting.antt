@@ -11,7 +11,8 @@ use Rattle.rev_messages.specs.Refusals.{shown}
 use Rattle.rev_messages.specs.declared.refusal.Refusal.{Refusal}
 use Rattle.rev_syntax.specs.Trees.{ProgramTree}
 use Rattle.rev_top.specs.Accepted.{Accepted, IsSound}
-use Rattle.mode_reports.specs.Answer.{Answer, Fits, RunsTo, Says, SaysAs, reads, reads_of, source_limit}
+use Rattle.mode_reports.specs.Answer.{Answer, Fits, RunsTo, Says, SaysAs, reads, reads_of}
+use Rattle.mode_reports.specs.declared.sizes.TheConstants.{SOURCE_LIMIT as source_limit}
 use Rattle.rev_top.specs.Delivery.{Wrote}
 use Rattle.rev_top.specs.Promises.{Calm, Feeds, IsWritten}
 use Rattle.mode_reports.specs.Stages.{Onward, Then}

@@ -12,7 +12,8 @@ use Rattle.rev_messages.specs.declared.refusal.Refusal.{Refusal}
 use Rattle.rev_words.specs.declared.Mode.{Mode}
 use Rattle.rev_words.specs.declared.Mode.TheVariants as modes
 use Rattle.rev_words.specs.declared.Words.{Words}
-use Rattle.mode_reports.specs.Answer.{Fits, Lists, SaysAs, file_limit, reads_of}
+use Rattle.mode_reports.specs.Answer.{Fits, Lists, SaysAs, reads_of}
+use Rattle.mode_reports.specs.declared.sizes.TheConstants.{FILE_LIMIT as file_limit}
 use Rattle.mode_reports.specs.Codes.{ChecksCode, KeepsCodeRules, ReadsFile}
 use Rattle.mode_reports.specs.Stages.{Onward, Then}
 use Rattle.rev_top.specs.Statuses.{IsSoundFile, ListingLaw}

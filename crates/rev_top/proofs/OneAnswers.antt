@@ -31,7 +31,8 @@ use Rattle.mode_reports.specs.Codes.{ChecksCode}
 use Rattle.mode_reports.specs.Stages.{Onward, Then}
 use Rattle.mode_reports.specs.Texts.{Checks, ChecksTree, reading as read_of}
 use Rattle.rev_top.specs.Findings.{Finding, lexical, syntax, of_funs, of_rules, accepted as accepts, HasVerdict, IsFinding, IsSyntaxFault}
-use Rattle.mode_reports.specs.Answer.{Accepts, Answer, AuditsParts, AuditsTrace, Emits, Fits, IsWithin, Lists, Orders, Repeats, Replays, RunsCode, RunsTo, Says, SaysAs, Streams, Traces, code_run, code_run_before, reads_of, setting, source_limit}
+use Rattle.mode_reports.specs.Answer.{Accepts, Answer, AuditsParts, AuditsTrace, Emits, Fits, IsWithin, Lists, Orders, Repeats, Replays, RunsCode, RunsTo, Says, SaysAs, Streams, Traces, code_run, code_run_before, reads_of, setting}
+use Rattle.mode_reports.specs.declared.sizes.TheConstants.{SOURCE_LIMIT as source_limit}
 use Rattle.mode_reports.specs.Schedules.{ReplaysCode}
 use Rattle.code_verifier.specs.Verdicts.{KeepsRules}
 use Rattle.code_machine_laws.proofs.Outcomes.{each_has_one}

@@ -16,7 +16,8 @@ use Rattle.rev_syntax.specs.Trees.{ProgramTree}
 use Rattle.affine_check.specs.Affine.{IsAffine}
 use Rattle.revision_calculus.specs.Complete.{HasOutcome}
 use Rattle.mode_reports.specs.Affine.{KeepsAffine, ReadsAffine}
-use Rattle.mode_reports.specs.Answer.{Answer, Answers, Given, SaysAs, Streams, reads_of, setting, source_limit}
+use Rattle.mode_reports.specs.Answer.{Answer, Answers, Given, SaysAs, Streams, reads_of, setting}
+use Rattle.mode_reports.specs.declared.sizes.TheConstants.{SOURCE_LIMIT as source_limit}
 use Rattle.rev_top.specs.Rans.{Happened, Leaves, answered, goes_by_threads, no_report}
 use Rattle.mode_reports.specs.Stages.{Onward, Then}
 use Rattle.mode_reports.specs.Stops.{Meets, stop_of_words}

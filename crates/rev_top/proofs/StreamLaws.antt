@@ -17,7 +17,8 @@ use Rattle.revision_calculus.specs.Complete.{HasOutcome}
 use Rattle.revision_calculus.proofs.Outcomes.{one_outcome}
 use Rattle.code_machine_laws.specs.Texts.{said}
 use Rattle.mode_reports.specs.Affine.{KeepsAffine}
-use Rattle.mode_reports.specs.Answer.{Answer, Given, RunsTo, SaysAs, Streams, reads_of, setting, source_limit}
+use Rattle.mode_reports.specs.Answer.{Answer, Given, RunsTo, SaysAs, Streams, reads_of, setting}
+use Rattle.mode_reports.specs.declared.sizes.TheConstants.{SOURCE_LIMIT as source_limit}
 use Rattle.rev_top.specs.Delivery.{Delivered, all_written, err_failed, no_room_at_err, no_room_at_out, out_failed}
 use Rattle.rev_top.specs.Rans.{answered, no_report}
 use Rattle.mode_reports.specs.Stages.{Onward, Then}

@@ -10,7 +10,8 @@ use Rattle.rev_words.specs.declared.Words.{Words}
 use Rattle.rev_report.specs.Outcome.{report}
 use Rattle.rev_syntax.specs.Trees.{ProgramTree}
 use Rattle.revision_calculus.specs.Complete.{HasOutcome}
-use Rattle.mode_reports.specs.Answer.{setting, source_limit}
+use Rattle.mode_reports.specs.Answer.{setting}
+use Rattle.mode_reports.specs.declared.sizes.TheConstants.{SOURCE_LIMIT as source_limit}
 use Rattle.rev_top.specs.Delivery.{Wrote}
 use Rattle.rev_top.specs.Promises.{Calm}
 pub use Rattle.rev_top.specs.Writes.{IsSound}

@@ -16,7 +16,7 @@ use Rattle.typed_programs.specs.Accepted.{IsWellTyped}
 use Rattle.typed_programs.specs.Program.{faults}
 use Rattle.static_rules.specs.Funs.{IsFirstBrokenFun, KeepsFunRules}
 use Rattle.static_rules.specs.Breaks.{IsFirstBroken}
-use Rattle.mode_reports.specs.Answer.{source_limit}
+use Rattle.mode_reports.specs.declared.sizes.TheConstants.{SOURCE_LIMIT as source_limit}
 use Rattle.mode_reports.specs.Texts.{Checks}
 
 -- a text is at fault in its tokens, in its syntax, in its funs or in another static rule, or it is accepted

@@ -31,7 +31,8 @@ use Rattle.mode_reports.specs.Texts.{Checks}
 use Rattle.mode_reports.specs.Traces.{Judges, Parts, ReadsTrace, Splits}
 use Rattle.affine_check.specs.Affine.{IsAffine}
 use Rattle.mode_reports.specs.Affine.{KeepsAffine}
-use Rattle.mode_reports.specs.Answer.{Answer, Fits, Says, code_run, file_limit, reads_of, setting}
+use Rattle.mode_reports.specs.Answer.{Answer, Fits, Says, code_run, reads_of, setting}
+use Rattle.mode_reports.specs.declared.sizes.TheConstants.{FILE_LIMIT as file_limit}
 
 -- ---- one answer
 

@@ -13,7 +13,8 @@ use Rattle.trace_diagram.specs.Traces.{IsTrace, IsWholeLines, trace_text}
 use Rattle.trace_diagram.specs.declared.diagram.Trace.{Trace}
 use Rattle.trace_diagram.specs.Dividing.{IsCutAt}
 use Rattle.audit_rules.specs.Traced.{HasTrace}
-use Rattle.mode_reports.specs.Answer.{Answer, Says, file_limit, setting, source_limit}
+use Rattle.mode_reports.specs.Answer.{Answer, Says, setting}
+use Rattle.mode_reports.specs.declared.sizes.TheConstants.{FILE_LIMIT as file_limit, SOURCE_LIMIT as source_limit}
 use Rattle.rev_top.specs.RanLaws.{IsRunStatus}
 use Rattle.mode_reports.specs.Texts.{Checks}
 

@@ -4,7 +4,8 @@ use Rattle.std.specs.Prelude.{Some}
 use Rattle.rev_syntax.specs.View.{program as whole}
 use Rattle.typed_programs.specs.declared.typed.Typed.{Typed}
 use Rattle.mode_reports.specs.Affine.{ReadsAffine}
-use Rattle.mode_reports.specs.Answer.{Given, source_limit}
+use Rattle.mode_reports.specs.Answer.{Given}
+use Rattle.mode_reports.specs.declared.sizes.TheConstants.{SOURCE_LIMIT as source_limit}
 use Rattle.mode_reports.specs.Stops.{Meets}
 use Rattle.mode_reports.proofs.Stages.{goes_on, leaves}
 use Rattle.rev_top.proofs.streams.affine_source.Goals as goal
