@@ -71,10 +71,10 @@ pub fn run_block<P: Snapshot>(
         line: registers.line,
     };
     let instrs = b.instrs.as_slice();
+    let mut x = fetch(instrs, r.at);
     loop {
-        let x = fetch(instrs, r.at);
         match act(code, table, inputs, b, memory, words, &mut r, x) {
-            Act::Goes => {},
+            Act::Goes => x = fetch(instrs, r.at),
             last => {
                 registers.at = r.at;
                 registers.top = r.top;

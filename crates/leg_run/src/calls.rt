@@ -32,6 +32,7 @@ pub fn ensure(words: &mut Vec<u64>, size: usize) -> Result<(), AllocError>
 }
 
 /// Makes room for a frame of a block, whose arguments are the words from `low` on, and begins it.
+#[inline(always)]
 fn begin_frame(
     words: &mut Vec<u64>,
     called: &CodeBlock,
@@ -70,6 +71,7 @@ fn low_of(b: &CodeBlock, r: &Registers) -> usize
 }
 
 /// Begins a frame of a block, whose arguments are the words on the stack of the frame that calls.
+#[inline(always)]
 fn enter(
     run: &mut Run,
     b: &CodeBlock,
@@ -99,6 +101,7 @@ fn enter(
 }
 
 /// Calls a block, or traps where the revision has 1,000 frames already.
+#[inline(always)]
 pub fn call(
     setting: &CodeSetting,
     run: &mut Run,
@@ -164,6 +167,7 @@ fn go_back(run: &mut Run, b: &CodeBlock, w: Waiting)
 }
 
 /// Returns to the frame below; in the first frame the revision ends.
+#[inline(always)]
 pub fn leave(setting: &CodeSetting, run: &mut Run, b: &CodeBlock) -> BlockExit
     requires block { slice_get setting.now.code.blocks run.old.registers.block ≡ Some b.now }
     requires instr { slice_get b.now.instrs run.old.registers.at ≡ Some i.Return }

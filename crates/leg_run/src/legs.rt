@@ -34,6 +34,7 @@ fn instr_at(b: &CodeBlock, at: u32) -> Instr
 }
 
 /// Does an instruction that leaves its block, or ends the leg there.
+#[inline(always)]
 fn turn_at<P: Snapshot>(
     setting: &CodeSetting,
     memory: &mut Memory<P>,

@@ -44,9 +44,10 @@ stopped : (code : Code) (inputs : List ℤ) (m : Mode) (b : CodeBlock) (c : Stat
 stopped code inputs m b c s s' ws r r' seen root e f h =
     subst (λ k. Ends code inputs m b c k ws r' seen root) e (subst (λ q. Ends code inputs m b c s ws q seen root) f h)
 
-pub loop-last-init : goal.loop-last-init
-loop-last-init g c = record {
+pub loop-x-init : goal.loop-x-init
+loop-x-init g c = record {
   instrs = c.as_slice-instrs.ensures;
+  next = c.fetch-x.ensures;
   registers = refl;
   words = refl;
   ahead = λ m c0 here. record { now = c0; steps = step.none; here = here; same = all_same c0 };
@@ -61,83 +62,96 @@ loop-last-init g c = record {
 pub fetch-x-requires : goal.fetch-x-requires
 fetch-x-requires g c =
     let q = c.requires.stands in
-    let v = c.loop-last.invariant in
+    inside_now c.args.code.now c.requires.accepted c.args.inputs.now q.0 c.args.b.now q.1 c.args.words.now
+    c.args.registers.now _ _ q.2 c.requires.block c.as_slice-instrs.result.now c.as_slice-instrs.ensures
+
+pub fetch-requires : goal.fetch-requires
+fetch-requires g c =
+    let q = c.requires.stands in
+    let v = c.loop-x.invariant in
     let a = v.ahead q.0 q.1 q.2 in
     let is = ap (slice_get c.args.code.now.blocks) v.block ∙ c.requires.block in
-    inside_now c.args.code.now c.requires.accepted c.args.inputs.now q.0 c.args.b.now a.now c.loop-last.words
-    c.loop-last.r _ _ a.here is c.as_slice-instrs.result.now v.instrs
+    let at = ap (λ xs. slice_get xs c.loop-x.r.at) (sym v.instrs) ∙ v.next in
+    let e = c.in-Goes.ensures in
+    let d =
+    onward c.args.code.now c.requires.accepted c.args.inputs.now c.requires.inputs q.0 c.args.b.now a.now
+    c.loop-x.words c.loop-x.r _ _ a.here is _ at c.act.new.words c.act.new.r _ _ _
+    (few_locations _ _ _ _ v.size c.requires.size a.here.many) e.int e.does e.stays q.1 a.steps a.same in
+    inside_now c.args.code.now c.requires.accepted c.args.inputs.now q.0 c.args.b.now d.now c.act.new.words c.act.new.r
+    _ _ d.here (ap (slice_get c.args.code.now.blocks) e.stays.block ∙ is) c.loop-x.instrs v.instrs
 
 pub act-requires-clause-operand : goal.act-requires-clause-operand
 act-requires-clause-operand g c =
     let q = c.requires.stands in
-    let v = c.loop-last.invariant in
+    let v = c.loop-x.invariant in
     let a = v.ahead q.0 q.1 q.2 in
     let is = ap (slice_get c.args.code.now.blocks) v.block ∙ c.requires.block in
-    let at = ap (λ xs. slice_get xs c.loop-last.r.at) (sym v.instrs) ∙ c.fetch-x.ensures in
+    let at = ap (λ xs. slice_get xs c.loop-x.r.at) (sym v.instrs) ∙ v.next in
     found_operand c.args.code.now c.requires.accepted c.args.inputs.now c.requires.inputs q.0 c.args.b.now a.now
-    c.loop-last.words c.loop-last.r _ _ a.here is _ at
+    c.loop-x.words c.loop-x.r _ _ a.here is _ at
 
 pub act-requires-clause-placed : goal.act-requires-clause-placed
 act-requires-clause-placed g c =
     let q = c.requires.stands in
-    let v = c.loop-last.invariant in
+    let v = c.loop-x.invariant in
     let a = v.ahead q.0 q.1 q.2 in
     let is = ap (slice_get c.args.code.now.blocks) v.block ∙ c.requires.block in
-    let at = ap (λ xs. slice_get xs c.loop-last.r.at) (sym v.instrs) ∙ c.fetch-x.ensures in
+    let at = ap (λ xs. slice_get xs c.loop-x.r.at) (sym v.instrs) ∙ v.next in
     let roomy =
-    roomy_still c.args.code.now c.args.b.now c.args.registers.now c.loop-last.r (length c.args.words.now)
-    (length c.loop-last.words) c.requires.room v.block v.base v.words in
+    roomy_still c.args.code.now c.args.b.now c.args.registers.now c.loop-x.r (length c.args.words.now)
+    (length c.loop-x.words) c.requires.room v.block v.base v.words in
     let few : length c.args.b.now.instrs < 2 ^ 32 = omega (arith, c.requires.short) in
     placed c.args.code.now c.requires.accepted c.args.inputs.now c.requires.inputs q.0 c.args.b.now a.now
-    c.loop-last.words c.loop-last.r _ _ a.here is _ at roomy few
+    c.loop-x.words c.loop-x.r _ _ a.here is _ at roomy few
 
 pub act-requires-clause-room : goal.act-requires-clause-room
 act-requires-clause-room g c =
     let q = c.requires.stands in
-    let v = c.loop-last.invariant in
+    let v = c.loop-x.invariant in
     let a = v.ahead q.0 q.1 q.2 in
     let is = ap (slice_get c.args.code.now.blocks) v.block ∙ c.requires.block in
-    let at = ap (λ xs. slice_get xs c.loop-last.r.at) (sym v.instrs) ∙ c.fetch-x.ensures in
+    let at = ap (λ xs. slice_get xs c.loop-x.r.at) (sym v.instrs) ∙ v.next in
     let roomy =
-    roomy_still c.args.code.now c.args.b.now c.args.registers.now c.loop-last.r (length c.args.words.now)
-    (length c.loop-last.words) c.requires.room v.block v.base v.words in
+    roomy_still c.args.code.now c.args.b.now c.args.registers.now c.loop-x.r (length c.args.words.now)
+    (length c.loop-x.words) c.requires.room v.block v.base v.words in
     let few : length c.args.b.now.instrs < 2 ^ 32 = omega (arith, c.requires.short) in
     room c.args.code.now c.requires.accepted c.args.inputs.now c.requires.inputs q.0 c.args.b.now a.now
-    c.loop-last.words c.loop-last.r _ _ a.here is _ at roomy few
+    c.loop-x.words c.loop-x.r _ _ a.here is _ at roomy few
 
-pub loop-last-smaller : goal.loop-last-smaller
-loop-last-smaller g c =
+pub loop-x-smaller : goal.loop-x-smaller
+loop-x-smaller g c =
     let q = c.requires.stands in
-    let v = c.loop-last.invariant in
+    let v = c.loop-x.invariant in
     let a = v.ahead q.0 q.1 q.2 in
     let is = ap (slice_get c.args.code.now.blocks) v.block ∙ c.requires.block in
-    let at = ap (λ xs. slice_get xs c.loop-last.r.at) (sym v.instrs) ∙ c.fetch-x.ensures in
+    let at = ap (λ xs. slice_get xs c.loop-x.r.at) (sym v.instrs) ∙ v.next in
     let e = c.in-Goes.ensures in
     smaller c.args.code.now c.requires.accepted c.args.inputs.now c.requires.inputs q.0 c.args.b.now a.now
-    c.loop-last.words c.loop-last.r _ _ a.here is _ at c.act.new.words c.act.new.r _ _ _
+    c.loop-x.words c.loop-x.r _ _ a.here is _ at c.act.new.words c.act.new.r _ _ _
     (few_locations _ _ _ _ v.size c.requires.size a.here.many) e.int e.does e.stays
 
-pub loop-last-preserved : goal.loop-last-preserved
-loop-last-preserved g c =
-    let v = c.loop-last.invariant in
+pub loop-x-preserved : goal.loop-x-preserved
+loop-x-preserved g c =
+    let v = c.loop-x.invariant in
     let is = ap (slice_get c.args.code.now.blocks) v.block ∙ c.requires.block in
-    let at = ap (λ xs. slice_get xs c.loop-last.r.at) (sym v.instrs) ∙ c.fetch-x.ensures in
+    let at = ap (λ xs. slice_get xs c.loop-x.r.at) (sym v.instrs) ∙ v.next in
     let e = c.in-Goes.ensures in
     record {
       instrs = v.instrs;
+      next = c.fetch.ensures;
       registers = v.registers;
       words = c.act.auto.words ∙ v.words;
       ahead = λ m c0 here.
           let a = v.ahead m c0 here in
           onward c.args.code.now c.requires.accepted c.args.inputs.now c.requires.inputs m c.args.b.now a.now
-          c.loop-last.words c.loop-last.r _ _ a.here is _ at c.act.new.words c.act.new.r _ _ _
+          c.loop-x.words c.loop-x.r _ _ a.here is _ at c.act.new.words c.act.new.r _ _ _
           (few_locations _ _ _ _ v.size c.requires.size a.here.many) e.int e.does e.stays c0 a.steps a.same;
       kept = λ h.
           let q = c.requires.stands in
           let a = v.ahead q.0 q.1 q.2 in
           kept_on _ _ _ _ _ _ _ _ v.size (v.kept h)
           (quiet c.args.code.now c.requires.accepted c.args.inputs.now c.requires.inputs q.0 c.args.b.now a.now
-          c.loop-last.words c.loop-last.r _ _ a.here is _ at c.act.new.words c.act.new.r _ _ _
+          c.loop-x.words c.loop-x.r _ _ a.here is _ at c.act.new.words c.act.new.r _ _ _
           (few_locations _ _ _ _ v.size c.requires.size a.here.many) e.int h stop.Goes e.does e.stays);
       block = e.stays.block ∙ v.block;
       base = e.stays.base ∙ v.base;
@@ -148,13 +162,13 @@ loop-last-preserved g c =
 
 pub returns-in_default : goal.returns-in_default
 returns-in_default g c =
-    let v = c.loop-last.invariant in
+    let v = c.loop-x.invariant in
     let is = ap (slice_get c.args.code.now.blocks) v.block ∙ c.requires.block in
-    let at = ap (λ xs. slice_get xs c.loop-last.r.at) (sym v.instrs) ∙ c.fetch-x.ensures in
+    let at = ap (λ xs. slice_get xs c.loop-x.r.at) (sym v.instrs) ∙ v.next in
     let e = c.act.ensures in
-    let was : c.loop-last.registers ≡ c.args.registers.now = v.registers in
+    let was : c.loop-x.registers ≡ c.args.registers.now = v.registers in
     let same =
-    same_registers c.loop-last.registers c.act.new.r
+    same_registers c.loop-x.registers c.act.new.r
     (e.stays.block ∙ v.block ∙ sym (ap (λ (r : Registers). r.block) was))
     (e.stays.base ∙ v.base ∙ sym (ap (λ (r : Registers). r.base) was)) in
     record {
@@ -163,7 +177,7 @@ returns-in_default g c =
           stopped c.args.code.now c.args.inputs.now m c.args.b.now c0 _ _ c.act.new.words _ _ _ _ (sym c.stop.ensures)
           same
           (ended c.args.code.now c.requires.accepted c.args.inputs.now c.requires.inputs m c.args.b.now a.now
-          c.loop-last.words c.loop-last.r _ _ a.here is _ at c.act.new.words c.act.new.r _ _ _
+          c.loop-x.words c.loop-x.r _ _ a.here is _ at c.act.new.words c.act.new.r _ _ _
           (few_locations _ _ _ _ v.size c.requires.size a.here.many) e.int (stop_of c.act.result) e.does e.stays
           (not_goes c.act.result c.in_default.not-Goes) c0 a.steps a.same);
       kept = λ h.
@@ -171,7 +185,7 @@ returns-in_default g c =
           let a = v.ahead q.0 q.1 q.2 in
           kept_on _ _ _ _ _ _ _ _ v.size (v.kept h)
           (quiet c.args.code.now c.requires.accepted c.args.inputs.now c.requires.inputs q.0 c.args.b.now a.now
-          c.loop-last.words c.loop-last.r _ _ a.here is _ at c.act.new.words c.act.new.r _ _ _
+          c.loop-x.words c.loop-x.r _ _ a.here is _ at c.act.new.words c.act.new.r _ _ _
           (few_locations _ _ _ _ v.size c.requires.size a.here.many) e.int h (stop_of c.act.result) e.does e.stays);
       block = ap (λ (r : Registers). r.block) was;
       base = ap (λ (r : Registers). r.base) was;
