@@ -72,10 +72,10 @@ pub fn run_block_noting<P: Snapshot>(
         line: registers.line,
     };
     let instrs = b.instrs.as_slice();
+    let mut x = fetch(instrs, r.at);
     loop {
-        let x = fetch(instrs, r.at);
         match act_noting(code, table, inputs, b, memory, words, &mut r, x, noted) {
-            Stop::Goes => {},
+            Stop::Goes => x = fetch(instrs, r.at),
             last => {
                 registers.at = r.at;
                 registers.top = r.top;

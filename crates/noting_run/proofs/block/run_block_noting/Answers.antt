@@ -41,9 +41,10 @@ stopped code inputs m b c s s' ws r r' seen root old new e f h =
     subst (λ k. EndsNoting code inputs m b c k ws r' seen root old new) e
     (subst (λ q. EndsNoting code inputs m b c s ws q seen root old new) f h)
 
-pub loop-last-init : goal.loop-last-init
-loop-last-init g c = record {
+pub loop-x-init : goal.loop-x-init
+loop-x-init g c = record {
   instrs = c.as_slice-instrs.ensures;
+  next = c.fetch-x.ensures;
   registers = refl;
   words = refl;
   ahead = λ m c0 here. record {
@@ -60,77 +61,92 @@ loop-last-init g c = record {
 pub fetch-x-requires : goal.fetch-x-requires
 fetch-x-requires g c =
     let q = c.requires.stands in
-    let v = c.loop-last.invariant in
-    let a = (v.ahead q.0 q.1 q.2).ahead in
+    inside_now c.args.code.now c.requires.accepted c.args.inputs.now q.0 c.args.b.now q.1 c.args.words.now
+    c.args.registers.now _ _ q.2 c.requires.block c.as_slice-instrs.result.now c.as_slice-instrs.ensures
+
+pub fetch-requires : goal.fetch-requires
+fetch-requires g c =
+    let q = c.requires.stands in
+    let v = c.loop-x.invariant in
+    let n = v.ahead q.0 q.1 q.2 in
+    let a = n.ahead in
     let is = ap (slice_get c.args.code.now.blocks) v.block ∙ c.requires.block in
-    inside_now c.args.code.now c.requires.accepted c.args.inputs.now q.0 c.args.b.now a.now c.loop-last.words
-    c.loop-last.r _ _ a.here is c.as_slice-instrs.result.now v.instrs
+    let at = ap (λ xs. slice_get xs c.loop-x.r.at) (sym v.instrs) ∙ v.next in
+    let e = c.in-Goes.ensures in
+    let d =
+    (onward_noting c.args.code.now c.requires.accepted c.args.inputs.now c.requires.inputs q.0 c.args.b.now a.now
+    c.loop-x.words c.loop-x.r _ _ a.here is _ at (notes.On c.args.noted.now) (notes.On c.loop-x.noted)
+    (notes.On c.act_noting.new.noted) q.1 a.steps n.noted e.marked c.act_noting.new.words c.act_noting.new.r _ _ _
+    (few_locations _ _ _ _ v.size c.requires.size a.here.many) e.int a.same e.does e.stays).ahead in
+    inside_now c.args.code.now c.requires.accepted c.args.inputs.now q.0 c.args.b.now d.now c.act_noting.new.words
+    c.act_noting.new.r _ _ d.here (ap (slice_get c.args.code.now.blocks) e.stays.block ∙ is) c.loop-x.instrs v.instrs
 
 pub act_noting-requires-clause-operand : goal.act_noting-requires-clause-operand
 act_noting-requires-clause-operand g c =
     let q = c.requires.stands in
-    let v = c.loop-last.invariant in
+    let v = c.loop-x.invariant in
     let a = (v.ahead q.0 q.1 q.2).ahead in
     let is = ap (slice_get c.args.code.now.blocks) v.block ∙ c.requires.block in
-    let at = ap (λ xs. slice_get xs c.loop-last.r.at) (sym v.instrs) ∙ c.fetch-x.ensures in
+    let at = ap (λ xs. slice_get xs c.loop-x.r.at) (sym v.instrs) ∙ v.next in
     found_operand c.args.code.now c.requires.accepted c.args.inputs.now c.requires.inputs q.0 c.args.b.now a.now
-    c.loop-last.words c.loop-last.r _ _ a.here is _ at
+    c.loop-x.words c.loop-x.r _ _ a.here is _ at
 
 pub act_noting-requires-clause-placed : goal.act_noting-requires-clause-placed
 act_noting-requires-clause-placed g c =
     let q = c.requires.stands in
-    let v = c.loop-last.invariant in
+    let v = c.loop-x.invariant in
     let a = (v.ahead q.0 q.1 q.2).ahead in
     let is = ap (slice_get c.args.code.now.blocks) v.block ∙ c.requires.block in
-    let at = ap (λ xs. slice_get xs c.loop-last.r.at) (sym v.instrs) ∙ c.fetch-x.ensures in
+    let at = ap (λ xs. slice_get xs c.loop-x.r.at) (sym v.instrs) ∙ v.next in
     let roomy =
-    roomy_still c.args.code.now c.args.b.now c.args.registers.now c.loop-last.r (length c.args.words.now)
-    (length c.loop-last.words) c.requires.room v.block v.base v.words in
+    roomy_still c.args.code.now c.args.b.now c.args.registers.now c.loop-x.r (length c.args.words.now)
+    (length c.loop-x.words) c.requires.room v.block v.base v.words in
     let few : length c.args.b.now.instrs < 2 ^ 32 = omega (arith, c.requires.short) in
     placed c.args.code.now c.requires.accepted c.args.inputs.now c.requires.inputs q.0 c.args.b.now a.now
-    c.loop-last.words c.loop-last.r _ _ a.here is _ at roomy few
+    c.loop-x.words c.loop-x.r _ _ a.here is _ at roomy few
 
 pub act_noting-requires-clause-room : goal.act_noting-requires-clause-room
 act_noting-requires-clause-room g c =
     let q = c.requires.stands in
-    let v = c.loop-last.invariant in
+    let v = c.loop-x.invariant in
     let a = (v.ahead q.0 q.1 q.2).ahead in
     let is = ap (slice_get c.args.code.now.blocks) v.block ∙ c.requires.block in
-    let at = ap (λ xs. slice_get xs c.loop-last.r.at) (sym v.instrs) ∙ c.fetch-x.ensures in
+    let at = ap (λ xs. slice_get xs c.loop-x.r.at) (sym v.instrs) ∙ v.next in
     let roomy =
-    roomy_still c.args.code.now c.args.b.now c.args.registers.now c.loop-last.r (length c.args.words.now)
-    (length c.loop-last.words) c.requires.room v.block v.base v.words in
+    roomy_still c.args.code.now c.args.b.now c.args.registers.now c.loop-x.r (length c.args.words.now)
+    (length c.loop-x.words) c.requires.room v.block v.base v.words in
     let few : length c.args.b.now.instrs < 2 ^ 32 = omega (arith, c.requires.short) in
     room c.args.code.now c.requires.accepted c.args.inputs.now c.requires.inputs q.0 c.args.b.now a.now
-    c.loop-last.words c.loop-last.r _ _ a.here is _ at roomy few
+    c.loop-x.words c.loop-x.r _ _ a.here is _ at roomy few
 
-pub loop-last-smaller : goal.loop-last-smaller
-loop-last-smaller g c =
+pub loop-x-smaller : goal.loop-x-smaller
+loop-x-smaller g c =
     let q = c.requires.stands in
-    let v = c.loop-last.invariant in
+    let v = c.loop-x.invariant in
     let a = (v.ahead q.0 q.1 q.2).ahead in
     let is = ap (slice_get c.args.code.now.blocks) v.block ∙ c.requires.block in
-    let at = ap (λ xs. slice_get xs c.loop-last.r.at) (sym v.instrs) ∙ c.fetch-x.ensures in
+    let at = ap (λ xs. slice_get xs c.loop-x.r.at) (sym v.instrs) ∙ v.next in
     let e = c.in-Goes.ensures in
     smaller c.args.code.now c.requires.accepted c.args.inputs.now c.requires.inputs q.0 c.args.b.now a.now
-    c.loop-last.words c.loop-last.r _ _ a.here is _ at c.act_noting.new.words c.act_noting.new.r _ _ _
+    c.loop-x.words c.loop-x.r _ _ a.here is _ at c.act_noting.new.words c.act_noting.new.r _ _ _
     (few_locations _ _ _ _ v.size c.requires.size a.here.many) e.int e.does e.stays
 
-pub loop-last-preserved : goal.loop-last-preserved
-loop-last-preserved g c =
-    let v = c.loop-last.invariant in
+pub loop-x-preserved : goal.loop-x-preserved
+loop-x-preserved g c =
+    let v = c.loop-x.invariant in
     let is = ap (slice_get c.args.code.now.blocks) v.block ∙ c.requires.block in
-    let at = ap (λ xs. slice_get xs c.loop-last.r.at) (sym v.instrs) ∙ c.fetch-x.ensures in
+    let at = ap (λ xs. slice_get xs c.loop-x.r.at) (sym v.instrs) ∙ v.next in
     let e = c.in-Goes.ensures in
     record {
       instrs = v.instrs;
+      next = c.fetch.ensures;
       registers = v.registers;
       words = c.act_noting.auto.words ∙ v.words;
       ahead = λ m c0 here.
           let n = v.ahead m c0 here in
           let a = n.ahead in
           onward_noting c.args.code.now c.requires.accepted c.args.inputs.now c.requires.inputs m c.args.b.now a.now
-          c.loop-last.words c.loop-last.r _ _ a.here is _ at (notes.On c.args.noted.now) (notes.On c.loop-last.noted) (notes.On c.act_noting.new.noted)
+          c.loop-x.words c.loop-x.r _ _ a.here is _ at (notes.On c.args.noted.now) (notes.On c.loop-x.noted) (notes.On c.act_noting.new.noted)
           c0 a.steps n.noted e.marked c.act_noting.new.words c.act_noting.new.r _ _ _
           (few_locations _ _ _ _ v.size c.requires.size a.here.many) e.int a.same e.does e.stays;
       block = e.stays.block ∙ v.block;
@@ -143,25 +159,25 @@ loop-last-preserved g c =
 pub act_noting-requires-clause-locations : goal.act_noting-requires-clause-locations
 act_noting-requires-clause-locations g c =
     let q = c.requires.stands in
-    let v = c.loop-last.invariant in
+    let v = c.loop-x.invariant in
     let n = (v.ahead q.0 q.1 q.2).noted.size in
     n ∙ c.requires.locations ∙ sym c.requires.size ∙ sym v.size
 
 pub act_noting-requires-clause-positions : goal.act_noting-requires-clause-positions
 act_noting-requires-clause-positions g c =
     let q = c.requires.stands in
-    let v = c.loop-last.invariant in
+    let v = c.loop-x.invariant in
     (v.ahead q.0 q.1 q.2).noted.positions ∙ c.requires.positions
 
 pub returns-in_default : goal.returns-in_default
 returns-in_default g c =
-    let v = c.loop-last.invariant in
+    let v = c.loop-x.invariant in
     let is = ap (slice_get c.args.code.now.blocks) v.block ∙ c.requires.block in
-    let at = ap (λ xs. slice_get xs c.loop-last.r.at) (sym v.instrs) ∙ c.fetch-x.ensures in
+    let at = ap (λ xs. slice_get xs c.loop-x.r.at) (sym v.instrs) ∙ v.next in
     let e = c.act_noting.ensures in
-    let was : c.loop-last.registers ≡ c.args.registers.now = v.registers in
+    let was : c.loop-x.registers ≡ c.args.registers.now = v.registers in
     let same =
-    same_registers c.loop-last.registers c.act_noting.new.r
+    same_registers c.loop-x.registers c.act_noting.new.r
     (e.stays.block ∙ v.block ∙ sym (ap (λ (r : Registers). r.block) was))
     (e.stays.base ∙ v.base ∙ sym (ap (λ (r : Registers). r.base) was)) in
     record {
@@ -171,7 +187,7 @@ returns-in_default g c =
           stopped c.args.code.now c.args.inputs.now m c.args.b.now c0 _ _ c.act_noting.new.words _ _ _ _
           (notes.On c.args.noted.now) (notes.On c.act_noting.new.noted) refl same
           (ended_noting c.args.code.now c.requires.accepted c.args.inputs.now c.requires.inputs m c.args.b.now a.now
-          c.loop-last.words c.loop-last.r _ _ a.here is _ at (notes.On c.args.noted.now) (notes.On c.loop-last.noted) (notes.On c.act_noting.new.noted)
+          c.loop-x.words c.loop-x.r _ _ a.here is _ at (notes.On c.args.noted.now) (notes.On c.loop-x.noted) (notes.On c.act_noting.new.noted)
           c0 a.steps n.noted e.marked c.act_noting.new.words c.act_noting.new.r _ _ _
           (few_locations _ _ _ _ v.size c.requires.size a.here.many) e.int a.same c.act_noting.result e.does e.stays
           c.in_default.not-Goes);

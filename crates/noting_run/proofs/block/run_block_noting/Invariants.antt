@@ -1,5 +1,6 @@
 -- Loops of run_block_noting: from each state that stood at first noted steps lead to one that stands now.
-use Rattle.std.proofs.Common.{◌≡◌, ℕ, length, take}
+use Rattle.std.proofs.Common.{◌≡◌, ℕ, length, take, Some}
+use Rattle.std.specs.Prelude.{slice_get}
 use Rattle.rev_code.specs.State.{State}
 use Rattle.version_map.specs.Deltas.{at}
 use Rattle.version_map.specs.Overlay.{under}
@@ -9,9 +10,10 @@ use Rattle.noting_run.specs.Runs.{AheadNoting}
 use Rattle.noting_run.proofs.block.run_block_noting.Given as goal
 
 -- each state for which the machine stood at first has steps to one for which it stands now
-abbrev pub invariant-loop-last : goal.invariant-loop-last
-invariant-loop-last g l = record {
+abbrev pub invariant-loop-x : goal.invariant-loop-x
+invariant-loop-x g l = record {
   instrs : l.instrs ≡ l.b.instrs;
+  next : slice_get l.instrs l.r.at ≡ Some l.x;
   registers : l.registers ≡ l.initial.registers;
   words : length l.words ≡ length l.initial.words;
   ahead : (m : Mode) (c : State ℕ) → Here l.code l.inputs m l.b c l.initial.words l.initial.registers
@@ -26,5 +28,5 @@ invariant-loop-last g l = record {
   group : g.P.Snapshot.group l.memory.snapshot ≡ g.P.Snapshot.group l.initial.memory.snapshot;
 }
 
-abbrev pub decreases-loop-last : goal.decreases-loop-last
-decreases-loop-last g l = weight l.b.instrs l.r.at l.r.fuel
+abbrev pub decreases-loop-x : goal.decreases-loop-x
+decreases-loop-x g l = weight l.b.instrs l.r.at l.r.fuel
