@@ -64,8 +64,8 @@ fetch-x-requires g c =
     inside_now c.args.code.now c.requires.accepted c.args.inputs.now q.0 c.args.b.now q.1 c.args.words.now
     c.args.registers.now _ _ q.2 c.requires.block c.as_slice-instrs.result.now c.as_slice-instrs.ensures
 
-pub fetch-requires : goal.fetch-requires
-fetch-requires g c =
+pub fetch-x-requires-in-Goes : goal.fetch-x-requires-in-Goes
+fetch-x-requires-in-Goes g c =
     let q = c.requires.stands in
     let v = c.loop-x.invariant in
     let n = v.ahead q.0 q.1 q.2 in
@@ -79,7 +79,7 @@ fetch-requires g c =
     (notes.On c.act_noting.new.noted) q.1 a.steps n.noted e.marked c.act_noting.new.words c.act_noting.new.r _ _ _
     (few_locations _ _ _ _ v.size c.requires.size a.here.many) e.int a.same e.does e.stays).ahead in
     inside_now c.args.code.now c.requires.accepted c.args.inputs.now q.0 c.args.b.now d.now c.act_noting.new.words
-    c.act_noting.new.r _ _ d.here (ap (slice_get c.args.code.now.blocks) e.stays.block ∙ is) c.loop-x.instrs v.instrs
+    c.act_noting.new.r _ _ d.here (ap (slice_get c.args.code.now.blocks) e.stays.block ∙ is) c.as_slice-instrs.result.now v.instrs
 
 pub act_noting-requires-clause-operand : goal.act_noting-requires-clause-operand
 act_noting-requires-clause-operand g c =
@@ -139,7 +139,7 @@ loop-x-preserved g c =
     let e = c.in-Goes.ensures in
     record {
       instrs = v.instrs;
-      next = c.fetch.ensures;
+      next = c.fetch-x-in-Goes.ensures;
       registers = v.registers;
       words = c.act_noting.auto.words ∙ v.words;
       ahead = λ m c0 here.
