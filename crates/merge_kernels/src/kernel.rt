@@ -1,15 +1,20 @@
 //! A closure beside the definition whose value it answers, and one for eight lanes.
 
-ghost use Rattle.std.specs.Prelude.{◌≡◌, ◌≤◌, ◌+◌, IfSome, None, Some, is_some, false, length, true};
+ghost use Rattle.std.specs.Prelude.{◌≡◌, ◌≤◌, ◌+◌, ◌*◌, ℕ, IfSome, None, Some, drop, is_some, length, true};
 ghost use Rattle.merge_kernels.specs.Answering.{Answers, RowAnswers};
 ghost use Rattle.merge_kernels.specs.Equal.{equal};
 ghost use Rattle.merge_kernels.specs.Lanes.{lanes_answer};
-ghost use Rattle.merge_kernels.specs.Rows.{HasPutValues};
+ghost use Rattle.version_map.specs.Composing.{Merges};
+ghost use Rattle.version_map.specs.Following.{Follow};
+ghost use Rattle.version_map.specs.Parts.{HasPut};
+ghost use Rattle.merge_kernels.specs.Rows.{AreValues};
 ghost use Rattle.merge_kernels.specs.Terms.{answer_of, definition};
 
 use crate::lanes::{note_lanes, put_lanes};
 use crate::term::MergeDef;
-use rev_num::NumFault;
+use crate::words::ints_of;
+use rev_num::{NumFault, int_of_word, word_of_int};
+use version_map::{Written, eight_roots, eight_values, eight_words};
 
 /// A merge as a closure, of the joiner's, the joinee's and the root's number.
 pub type NumberRun = Box<dyn Fn(i64, i64, i64) -> Result<i64, NumFault> + Send + Sync>;
@@ -48,34 +53,39 @@ impl RowKernel {
         (self.run)(main, join, root)
     }
 
-    /// Puts the words of the values of the definition for eight lanes from this place on, and tells
-    /// whether it did. Where a lane faults it changes nothing.
-    #[inline(always)]
-    pub(crate) fn put(
+    /// Puts the merges of so many eights of written locations from this place on by the definition, up
+    /// to the first that has a fault, and tells of how many. The closure is called here, so that room for
+    /// its answer is made once, and not for each eight.
+    pub(crate) fn put_eights(
         &self,
-        main: [i64; 8],
-        join: [i64; 8],
-        root: [i64; 8],
-        values: &mut [u64],
+        mains: &[u64],
+        written: &[Written],
         at: usize,
-    ) -> bool
-        requires { at + 8 ≤ length values.old }
+        eights: usize,
+        values: &mut [u64],
+    ) -> usize
+        requires mains { length mains.now ≡ length written.now }
+        requires values { length values.old ≡ length written.now }
+        requires inside { at + 8 * eights ≤ length written.now }
         ensures length { length values.new ≡ length values.old }
-        ensures kept { result ≡ false → values.new ≡ values.old }
-        ensures put { result ≡ true → HasPutValues
-            (lanes_answer (answer_of (definition self.now.def)) main join root) at
-            values.old values.new }
+        ensures most { result ≤ eights }
+        ensures put { (merges : Merges ℕ) (first : ℕ)
+            → Follow (drop at written.now) first (8 * eights)
+            → AreValues (definition self.now.def) merges first (8 * eights)
+            → HasPut merges mains.now written.now at (8 * result) values.old values.new }
     {
-        note_lanes(&main);
-        note_lanes(&join);
-        note_lanes(&root);
-        match (self.run)(main, join, root) {
-            Some(ints) => {
-                put_lanes(&ints, values, at);
-                true
-            },
-            None => false,
+        for eight in 0..eights {
+            let place = at + 8 * eight;
+            match (self.run)(
+                ints_of(eight_words(mains, place)),
+                ints_of(eight_values(written, place)),
+                ints_of(eight_roots(written, place)),
+            ) {
+                Some(ints) => put_lanes(&ints, values, place),
+                None => return eight,
+            }
         }
+        eights
     }
 }
 
@@ -133,6 +143,38 @@ impl Kernel {
         ensures { result ≡ answer_of (definition self.now.def) main join root }
     {
         (self.run)(main, join, root)
+    }
+
+    /// Puts the merges of so many written locations from this place on by the definition, one by one,
+    /// up to the first that has a fault, and tells of how many.
+    pub(crate) fn put_ones(
+        &self,
+        mains: &[u64],
+        written: &[Written],
+        at: usize,
+        many: usize,
+        values: &mut [u64],
+    ) -> usize
+        requires mains { length mains.now ≡ length written.now }
+        requires values { length values.old ≡ length written.now }
+        requires inside { at + many ≤ length written.now }
+        ensures length { length values.new ≡ length values.old }
+        ensures most { result ≤ many }
+        ensures put { (merges : Merges ℕ) (first : ℕ) → Follow (drop at written.now) first many
+            → AreValues (definition self.now.def) merges first many
+            → HasPut merges mains.now written.now at result values.old values.new }
+    {
+        for k in 0..many {
+            let w = written[at + k];
+            let main = int_of_word(mains[at + k]);
+            let join = int_of_word(w.value);
+            let root = int_of_word(w.root);
+            match (self.run)(main, join, root) {
+                Ok(value) => values[at + k] = word_of_int(value),
+                Err(_) => return k,
+            }
+        }
+        many
     }
 
     /// The row, if there is one.

@@ -9,9 +9,8 @@ ghost use Rattle.merge_kernels.specs.Rows.{AreValues};
 ghost use Rattle.merge_kernels.specs.Terms.{definition};
 ghost use Rattle.merge_kernels.specs.Words.{overlaid};
 
-use crate::kernel::{Kernel, RowKernel};
+use crate::kernel::Kernel;
 use crate::plan::KernelPlan;
-use crate::words::{by_kernel, put_by_row};
 use version_map::{Written, follow};
 
 impl<'k> KernelPlan<'k> {
@@ -83,63 +82,7 @@ fn put_run(
         → HasPut merges mains.now written.now at result values.old values.new }
 {
     match kernel.row() {
-        Some(row) => 8 * put_eights(row, mains, written, at, many / 8, values),
-        None => put_ones(kernel, mains, written, at, many, values),
+        Some(row) => 8 * row.put_eights(mains, written, at, many / 8, values),
+        None => kernel.put_ones(mains, written, at, many, values),
     }
-}
-
-/// Puts the merges of so many eights of written locations from this place on by the definition of a
-/// row, up to the first that has a fault, and tells of how many.
-fn put_eights(
-    row: &RowKernel,
-    mains: &[u64],
-    written: &[Written],
-    at: usize,
-    eights: usize,
-    values: &mut [u64],
-) -> usize
-    requires mains { length mains.now ≡ length written.now }
-    requires values { length values.old ≡ length written.now }
-    requires inside { at + 8 * eights ≤ length written.now }
-    ensures length { length values.new ≡ length values.old }
-    ensures most { result ≤ eights }
-    ensures put { (merges : Merges ℕ) (first : ℕ) → Follow (drop at written.now) first (8 * eights)
-        → AreValues (definition row.now.def) merges first (8 * eights)
-        → HasPut merges mains.now written.now at (8 * result) values.old values.new }
-{
-    for eight in 0..eights {
-        if !put_by_row(row, mains, written, at + 8 * eight, values) {
-            return eight;
-        }
-    }
-    eights
-}
-
-/// Puts the merges of so many written locations from this place on by the definition of a kernel,
-/// one by one, up to the first that has a fault, and tells of how many.
-fn put_ones(
-    kernel: &Kernel,
-    mains: &[u64],
-    written: &[Written],
-    at: usize,
-    many: usize,
-    values: &mut [u64],
-) -> usize
-    requires mains { length mains.now ≡ length written.now }
-    requires values { length values.old ≡ length written.now }
-    requires inside { at + many ≤ length written.now }
-    ensures length { length values.new ≡ length values.old }
-    ensures most { result ≤ many }
-    ensures put { (merges : Merges ℕ) (first : ℕ) → Follow (drop at written.now) first many
-        → AreValues (definition kernel.now.def) merges first many
-        → HasPut merges mains.now written.now at result values.old values.new }
-{
-    for k in 0..many {
-        let w = written[at + k];
-        match by_kernel(kernel, mains[at + k], w.value, w.root) {
-            Ok(value) => values[at + k] = value,
-            Err(_) => return k,
-        }
-    }
-    many
 }

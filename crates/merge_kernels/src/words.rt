@@ -1,15 +1,15 @@
 //! Merges of words by kernels.
 
-ghost use Rattle.std.specs.Prelude.{◌≡◌, ◌≤◌, ◌+◌, true, false, length, map, option_map};
+ghost use Rattle.std.specs.Prelude.{◌≡◌, map, option_map};
 ghost use Rattle.rev_num.specs.Words.{int_of, word_of};
-ghost use Rattle.merge_kernels.specs.Rows.{HasPutRow};
+ghost use Rattle.merge_kernels.specs.Lanes.{AreLanes};
 ghost use Rattle.merge_kernels.specs.Terms.{definition};
 ghost use Rattle.merge_kernels.specs.Words.{merged, merged_lanes, word_answer};
 
 use crate::kernel::{Kernel, RowKernel};
+use crate::lanes::note_lanes;
 use rev_num::{NumFault, int_of_word, word_of_int};
 use std::simd::prelude::*;
-use version_map::{Written, eight_roots, eight_values, eight_words};
 
 /// The word of a number, or the fault.
 fn word_of_answer(answer: Result<i64, NumFault>) -> Result<u64, NumFault>
@@ -34,8 +34,10 @@ pub fn by_kernel(kernel: &Kernel, main: u64, join: u64, root: u64) -> Result<u64
 
 /// The numbers of eight words. They are stored by twos as vectors: a row loads them as vectors,
 /// and such a load waits where its lanes were stored one by one.
-fn ints_of(words: [u64; 8]) -> [i64; 8]
-    ensures { result ≡ map int_of words }
+#[inline(always)]
+pub(crate) fn ints_of(words: [u64; 8]) -> [i64; 8]
+    ensures ints { result ≡ map int_of words }
+    ensures lanes { AreLanes result }
 {
     let mut ints = [0i64; 8];
     for pair in 0..4usize {
@@ -43,6 +45,7 @@ fn ints_of(words: [u64; 8]) -> [i64; 8]
         let two = i64x2::from_array([int_of_word(words[k]), int_of_word(words[k + 1])]);
         two.copy_to_slice(&mut ints[k..k + 2]);
     }
+    note_lanes(&ints);
     ints
 }
 
@@ -66,28 +69,4 @@ pub fn by_row(row: &RowKernel, main: [u64; 8], join: [u64; 8], root: [u64; 8]) -
         Some(eight) => Some(words_of(eight)),
         None => None,
     }
-}
-
-/// Puts the merges of eight written locations from this place on by the definition of a row, and
-/// tells whether it did. Where one faults it changes nothing.
-#[inline(always)]
-pub(crate) fn put_by_row(
-    row: &RowKernel,
-    mains: &[u64],
-    written: &[Written],
-    at: usize,
-    values: &mut [u64],
-) -> bool
-    requires mains { at + 8 ≤ length mains.now }
-    requires written { at + 8 ≤ length written.now }
-    requires values { at + 8 ≤ length values.old }
-    ensures length { length values.new ≡ length values.old }
-    ensures kept { result ≡ false → values.new ≡ values.old }
-    ensures put { result ≡ true → HasPutRow (definition row.now.def) mains.now written.now at
-        values.old values.new }
-{
-    let main = ints_of(eight_words(mains, at));
-    let join = ints_of(eight_values(written, at));
-    let root = ints_of(eight_roots(written, at));
-    row.put(main, join, root, values, at)
 }
