@@ -50,6 +50,7 @@ fn take_value(run: &mut Run, low: usize, value: u64)
 }
 
 /// Applies a fun: its value comes in place of the arguments, or it faults.
+#[inline(always)]
 pub fn apply<P: Snapshot>(
     setting: &CodeSetting,
     memory: &mut Memory<P>,
