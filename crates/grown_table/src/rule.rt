@@ -1,0 +1,71 @@
+//! What a user states of a table, and what the proofs keep of each seat.
+ghost use Rattle.std.specs.Prelude.{ℕ, List, Bool};
+ghost use Rattle.std.specs.Borrow.{ftrue};
+ghost use denote.RawPtr.{Ptr, coded_ptr};
+ghost use Rattle.atomic_table.specs.Table.{State};
+
+use atomic_blocks::rows::{Link, RowRule};
+use std::marker::{Model, PhantomData};
+
+/// V is what a seat knows, and K what the table is told once, when it is made.
+pub trait PartRule<V, K> {
+    // The user's fact about the list of all words and the views of all seats. A word of a part that
+    // is not there is 0.
+    ghost holds: { K → State (Unit {0}) V → Type 0 };
+
+    // The view of the first seat.
+    ghost first: { K → V };
+
+    // Whether a seat of this view may make this part.
+    ghost makes: { V → ℕ → Type 0 };
+
+    // Whether this part has to be there where its first word is this.
+    ghost needs: { ℕ → ℕ → Bool };
+}
+
+/// What a seat knows of parts. No value of it is made.
+pub struct Trail {
+    pub ghost width: { ℕ },
+    // The parts that it knows to be there.
+    pub ghost known: { List ℕ },
+    // How far it is with the part that it works on, the part, its row and the place of this.
+    pub ghost stage: { ℕ },
+    pub ghost part: { ℕ },
+    pub ghost row: { ℕ },
+    pub ghost at: { Ptr } by { coded_ptr },
+}
+
+impl Model for Trail {
+    ghost also_owns = { λ _. ftrue };
+}
+
+/// The view of a seat, and its trail. No value of it is made.
+pub struct Doing<V> {
+    pub trail: Trail,
+    pub client: V,
+}
+
+/// What is fixed when the table is made: where its two rows lie, how many parts it has, and how many
+/// words a part.
+#[derive(Drop)]
+pub struct Shape<K> {
+    pub about: K,
+    pub heads: Link<()>,
+    pub chart: Link<()>,
+    pub parts: usize,
+    pub width: usize,
+}
+
+pub struct Law<P> {
+    rule: PhantomData<P>,
+}
+
+impl<V, K, P: PartRule<V, K>> RowRule<(), Doing<V>, Shape<K>> for Law<P> {
+    ghost use Rattle.std.specs.Prelude.{[]};
+    ghost use Rattle.grown_table.specs.Parts.{Rules, resting};
+
+    ghost holds = { λ key. Rules (P.holds key.about) P.makes P.needs key.heads.ptr key.chart.ptr
+        key.parts key.width };
+
+    ghost first = { λ key. resting key.width [] (P.first key.about) };
+}

@@ -1,0 +1,29 @@
+//! What the rule says of the pure core, and of chains.
+ghost use Rattle.std.specs.Prelude.{◌≡◌, ℕ};
+ghost use Rattle.atomic_table.specs.Seated.{TableId};
+ghost use Rattle.segment_store.specs.Group.{group_of};
+ghost use Rattle.segment_store.specs.Depth.{IsDepthBound, LiveIsHeld};
+ghost use Rattle.segment_store.specs.Rule.{Reaches, BasesTie};
+
+/// Between any two atomic steps the words and views show a core that the steps of the core lead to
+/// from the empty one, and the base of each seat's chain whose words are known (`Sound`) is that of
+/// the core.
+pub fn core_laws()
+    ensures shown { (words stride masks : ℕ) → Reaches words stride masks }
+    ensures bases { (words stride masks : ℕ) → BasesTie words stride masks }
+{}
+
+/// No chain is longer than the segments are many.
+pub fn depth_bound()
+    ensures { IsDepthBound }
+{}
+
+/// Each segment that has a count and is not being built is in the chain of some seat.
+pub fn held_law()
+    ensures { LiveIsHeld }
+{}
+
+/// The group of a store names its table: tables of the same group are the same.
+pub fn group_law()
+    ensures { (a b : TableId) → group_of a ≡ group_of b → a ≡ b }
+{}

@@ -1,0 +1,116 @@
+//! The end of a store.
+ghost use Rattle.std.specs.Prelude.{◌≡◌, ◌+◌, ◌-◌, ◌*◌, ◌%◌, ◌<◌, ◌≤◌, ◌^◌, cond, ◌==◌};
+ghost use Rattle.std.specs.Prelude.{slice_index};
+ghost use Rattle.std.specs.Mem.Slots.{slots_items, slots_len, IsFull};
+ghost use Rattle.segment_store.specs.Live.{live_segments};
+
+use crate::store::{Closed, Place, Spent, Store};
+use std::alloc::Global;
+
+type Ended = crate::flat::Shut;
+
+/// What is left of a store that was ended: its words, which no thread shares any more, and how many
+/// holds were gathered, modulo 2^64.
+pub struct Shut {
+    table: Ended,
+    holds: u64,
+    stride: usize,
+    segments: usize,
+    witness: Place,
+    ghost full: { IsFull table.words × (slots_len table.words ≡ (segments + 1) * stride)
+        × (slots_len table.slots ≡ 0) },
+    ghost wide: { (0 < stride) × (segments < 2 ^ 32) × ((segments + 1) * stride ≤ 2 ^ 40) },
+}
+
+impl Store {
+    ghost use Rattle.segment_store.specs.Names.{IsSeatOf, gathered};
+    ghost use Rattle.segment_store.specs.Closing.{AreLast, IsCounted};
+
+    /// Ends the store, and keeps its words: those of a state that meets the rule, in which the seat
+    /// of `all` has its view.
+    pub fn shut(self, mut all: Spent) -> Shut
+        requires own { IsSeatOf self all.seat }
+        ensures words { AreLast self all (slots_items result.table.words) }
+        ensures sizes { (result.stride ≡ self.stride) × (result.segments ≡ self.segments) }
+        ensures holds { result.holds ≡ gathered all % 2 ^ 64 }
+        ensures group { IsSeatOf self result.witness }
+    {
+        let witness = self.witness(&mut all.seat);
+        let Store {
+            table,
+            initial: _,
+            stride,
+            masks: _,
+            segments,
+            words: _,
+        } = self;
+        let Spent { seat, holds } = all;
+        let _ = seat;
+        let ended = table.close();
+        Shut {
+            table: ended,
+            holds,
+            stride,
+            segments,
+            witness,
+        }
+    }
+
+    /// Ends the store, and counts in its last words. `live` is how many segments have a count that
+    /// is not 0. In each state that can have these words, and in which the seat of `all` has its
+    /// view, `out` is how many holds of all seats were not gathered, modulo 2^64. Where they have
+    /// fewer than 2^64, `out` is exact, and with none out no segment has a count.
+    pub fn close(self, all: Spent) -> Closed
+        requires own { IsSeatOf self all.seat }
+        ensures counted { IsCounted self all result }
+        ensures group { IsSeatOf self result.witness }
+    {
+        self.shut(all).count()
+    }
+}
+
+impl Shut {
+    /// What its words say, which are given back: how many segments have a count that is not 0, and
+    /// how much more the word has that counts the holds than were gathered, modulo 2^64.
+    pub fn count(self) -> Closed
+        ensures live { result.live
+            ≡ live_segments self.stride (slots_items self.table.words) self.segments }
+        ensures out { result.out
+            ≡ (slice_index (slots_items self.table.words) 0 + 2 ^ 64 - self.holds) % 2 ^ 64 }
+        ensures witness { result.witness ≡ self.witness }
+    {
+        let Shut {
+            table,
+            holds,
+            stride,
+            segments,
+            witness,
+        } = self;
+        let mut table = table;
+        let out = table.head(0).wrapping_sub(holds);
+        let live = live_in(&mut table, stride, segments);
+        table.free();
+        Closed { live, out, witness }
+    }
+}
+
+// How many of so many segments have a count that is not 0.
+fn live_in(table: &mut Ended, stride: usize, segments: usize) -> u32
+    requires full { IsFull table.now.words × (slots_len table.now.words ≡ (segments + 1) * stride) }
+    requires wide { (0 < stride) × (segments < 2 ^ 32) × ((segments + 1) * stride ≤ 2 ^ 40) }
+    ensures { result ≡ live_segments stride (slots_items table.now.words) segments }
+{
+    let mut live = 0;
+    let mut k = 0;
+    while k < segments {
+        live += busy(table.head((k + 1) * stride));
+        k += 1;
+    }
+    live
+}
+
+fn busy(word: u64) -> u32
+    ensures { result ≡ cond (word == 0) 0 1 }
+{
+    if word == 0 { 0 } else { 1 }
+}
