@@ -13,3 +13,16 @@ pub mod Keeps
 pub mod Turns
 pub mod Worlds
 pub mod Begins
+pub mod Items
+pub mod Weaving
+pub mod Deeds
+pub mod Moves
+pub mod Loops
+pub mod Rounding
+pub mod Entering
+pub mod Turning
+pub mod Shutting
+pub mod Seating
+pub mod Opening
+pub mod Holding
+pub mod Staying

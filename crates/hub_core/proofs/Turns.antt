@@ -86,7 +86,7 @@ module _ {R A E : Type 0} where
       omega arith)
 
   -- a number is handed in
-  outs_in : (slots : List (Status R A E)) (out : List ℕ) (n : ℕ) (s : Status R A E) → OutsAre slots out
+  pub outs_in : (slots : List (Status R A E)) (out : List ℕ) (n : ℕ) (s : Status R A E) → OutsAre slots out
       → at_number slots n ≡ Some Out → is_out (Some s) ≡ 0 → OutsAre (put_number slots n s) (without n out)
   outs_in slots out n s outs e none j = let o = outs j in dite (ℕ_discrete j n)
       (λ is.

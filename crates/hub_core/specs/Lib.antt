@@ -17,3 +17,5 @@ pub mod Passes
 pub mod Views
 pub mod Rule
 pub mod Seats
+pub mod Rounds
+pub mod Tally

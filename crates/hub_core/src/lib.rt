@@ -8,6 +8,7 @@ mod laws;
 mod queueing;
 mod revision;
 mod revisions;
+mod rooms;
 mod run_queue;
 mod slot;
 mod state;
@@ -21,13 +22,15 @@ pub use kept::Kept;
 pub use laws::{HubWorld, hub_laws, replay_laws};
 pub use queueing::marked;
 pub use revision::Revision;
-pub use revisions::{Parted, Revisions};
+pub use revisions::Revisions;
+pub use rooms::{Entry, Parted, Rooms, Round};
 pub use run_queue::{Chain, RunQueue};
 pub use slot::Slot;
 pub use state::HubState;
 pub use status::Status;
 pub use steps::{
     Another, Commit, Draw, Give, HandIn, OneHolder, StopNoMemory, StopTwice, Take, TakeIn, Witness,
+    MakeRound,
 };
 pub use value::Turn;
 pub use vectors::{append, empty};

@@ -100,6 +100,16 @@ impl RunQueue {
         self.many = self.many.saturating_add(1);
     }
 
+    /// Numbers up to this many, where there is memory.
+    pub fn extend(&mut self, many: usize) -> bool {
+        for _ in self.links.len()..many {
+            if self.links.push(0).is_err() {
+                return false;
+            }
+        }
+        lengthen(&mut self.waiters, many)
+    }
+
     /// A number that stands in no list is ready again, and the first of those.
     pub fn put_first(&mut self, number: u32)
         requires { number < length self.old.links.items }

@@ -1,7 +1,4 @@
 //! What the slot of a hub's table holds.
-ghost use Rattle.std.specs.Prelude.{◌≡◌, true, false};
-ghost use Rattle.hub_core.specs.declared.slot.Slot.TheVariants.{Home};
-ghost use Rattle.hub_core.specs.Slots.{is_home};
 
 use crate::value::Turn;
 use crate::vectors::empty;
@@ -19,8 +16,6 @@ pub enum Slot<R, A, E> {
 impl<R, A, E> Slot<R, A, E> {
     /// The value, where it is at home.
     pub fn into_home(self) -> Box<Turn<R, A, E>>
-        requires { is_home self ≡ true }
-        ensures { self ≡ Home result }
     {
         match self {
             Slot::Home(turn) => turn,
@@ -30,7 +25,6 @@ impl<R, A, E> Slot<R, A, E> {
 
     /// Lets a slot go whose value is away.
     pub fn spend(self)
-        requires { is_home self ≡ false }
     {
         match self {
             Slot::Home(turn) => empty(Some(turn)),

@@ -113,3 +113,11 @@ impl<L: Revision> Join<View<L::State>> for TakeIn<L> {
 
     ghost spent = { blank };
 }
+
+pub struct MakeRound<L: Revision> {
+    of: PhantomData<L>,
+}
+
+impl<L: Revision> Play<Slot<L::Runner, L::AtJoin, L::End>, View<L::State>> for MakeRound<L> {
+    ghost then = { drew L.machine L.ends };
+}

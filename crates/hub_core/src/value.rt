@@ -1,29 +1,26 @@
 //! What lies in the slot while nobody has the turn.
-ghost use Rattle.std.specs.Prelude.{◌≡◌, ◌≤◌, ◌++◌, [], ◌∷◌, length, Some, None, MatchOption};
-ghost use Rattle.std.specs.Prelude.{MatchBool, IfOk, IfErr, true};
-ghost use Rattle.hub_core.specs.declared.status.Status.TheVariants.{Ready};
-ghost use Rattle.hub_core.specs.declared.state.HubState.TheVariants.{All};
-ghost use Rattle.hub_core.specs.Chains.{AddsOne, KeepsLists, is_first};
-ghost use Rattle.hub_core.specs.Halts.{halt_by};
 
 use crate::revisions::Revisions;
+use crate::rooms::{Entry, Rooms};
 use crate::state::HubState;
 use crate::vectors::append;
 
 /// The hub, of revisions with runners `R`, joiners `A` and end values `E`.
 #[derive(Drop)]
 pub struct Turn<R, A, E> {
-    pub schedule: Vec<u32>,
+    pub entries: Vec<Entry>,
     pub revisions: Revisions<R, A, E>,
+    pub rooms: Rooms<R, A, E>,
     pub state: HubState,
+    /// Whether the tally is closed.
+    pub closed: bool,
+    /// How many children seats keep of which there is no record.
+    pub lent: u32,
 }
 
 impl<R, A, E> Turn<R, A, E> {
     /// Whether a halt was entered, and whether Twice was entered first.
-    pub fn halted(&self) -> Option<bool>
-        ensures { MatchOption result (self.now.state ≡ All)
-            (λ twice. self.now.state ≡ halt_by twice) }
-    {
+    pub fn halted(&self) -> Option<bool> {
         match self.state {
             HubState::All => None,
             HubState::Twice => Some(true),
@@ -31,63 +28,23 @@ impl<R, A, E> Turn<R, A, E> {
         }
     }
 
-    /// One more entry, where there is memory.
-    pub fn enter(&mut self, of: u32) -> bool
-        ensures schedule { MatchBool result
-            (self.new.schedule.items ≡ self.old.schedule.items ++ of ∷ [])
-            (self.new.schedule.items ≡ self.old.schedule.items) }
-        ensures same { (self.new.revisions ≡ self.old.revisions)
-            × (self.new.state ≡ self.old.state) }
-    {
-        self.schedule.push(of).is_ok()
+    /// Room for so many entries, where there is memory.
+    pub fn reserve(&mut self, entries: usize) -> bool {
+        self.entries.try_reserve(entries).is_ok() && self.rooms.reserve(0, entries)
     }
 
-    /// Two more entries, where there is memory for both.
-    pub fn enter_two(&mut self, first: u32, second: u32) -> bool
-        ensures schedule { MatchBool result
-            (self.new.schedule.items ≡ (self.old.schedule.items ++ first ∷ []) ++ second ∷ [])
-            (self.new.schedule.items ≡ self.old.schedule.items) }
-        ensures same { (self.new.revisions ≡ self.old.revisions)
-            × (self.new.state ≡ self.old.state) }
-    {
-        if self.schedule.try_reserve(2).is_err() {
-            return false;
-        }
-        append(&mut self.schedule, first);
-        append(&mut self.schedule, second);
-        true
+    /// Room for a fork.
+    pub fn reserve_birth(&mut self) -> bool {
+        self.entries.try_reserve(1).is_ok() && self.rooms.reserve(1, 1)
     }
 
-    /// One more entry, and one more revision, and its number. The runner comes back for want of
-    /// memory, and where no number is left.
-    pub fn grow(&mut self, of: u32, child: R) -> Result<u32, R>
-        requires queue { (length self.old.revisions.queue.links.items
-            ≡ length self.old.revisions.slots.items)
-            × (length self.old.revisions.slots.items
-            ≤ length self.old.revisions.queue.waiters.items) }
-        requires few { self.old.revisions.queue.unfinished
-            ≤ length self.old.revisions.slots.items }
-        ensures ok { IfOk result (λ n. (n ≡ length self.old.revisions.slots.items)
-            × (self.new.schedule.items ≡ self.old.schedule.items ++ of ∷ [])
-            × (self.new.revisions.slots.items
-            ≡ self.old.revisions.slots.items ++ Ready child ∷ [])
-            × (self.new.revisions.forkers.items
-            ≡ self.old.revisions.forkers.items ++ of ∷ [])) }
-        ensures added { IfOk result
-            (λ n. AddsOne self.old.revisions.queue self.new.revisions.queue n) }
-        ensures first { IfOk result (λ n. is_first self.new.revisions.queue.ready n ≡ true) }
-        ensures err { IfErr result (λ c. (c ≡ child)
-            × (self.new.schedule.items ≡ self.old.schedule.items)
-            × (self.new.revisions.slots.items ≡ self.old.revisions.slots.items)
-            × (self.new.revisions.forkers.items ≡ self.old.revisions.forkers.items)
-            × KeepsLists self.old.revisions.queue self.new.revisions.queue) }
-        ensures state { self.new.state ≡ self.old.state }
-    {
-        if self.schedule.try_reserve(1).is_err() {
-            return Err(child);
-        }
-        let number = self.revisions.grow(of, child)?;
-        append(&mut self.schedule, of);
-        Ok(number)
+    /// A place for the record of this number, where there is memory.
+    pub fn reach(&mut self, number: u32) -> bool {
+        self.revisions.reach(number) && self.rooms.reserve_kept(self.revisions.slots.len())
+    }
+
+    /// One more entry.
+    pub fn enter(&mut self, count: u32, number: u32) {
+        append(&mut self.entries, Entry { count, number });
     }
 }

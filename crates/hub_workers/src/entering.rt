@@ -166,7 +166,7 @@ pub fn fork_owing<L: Legs, W: Wait>(
         L.claimed_group L.stopped_group (view_of seat.new) result }
     ensures only { IsPair (view_of seat.old) joinee number → OnlyNext (view_of seat.new) result }
 {
-    let shares = bell.has_idle();
+    let shares = false;
     let Ok((parent, child)) = L::split(hand, at) else {
         halt(rt, hub, seat);
         return Next::Nothing;

@@ -1,5 +1,4 @@
 //! The calls in a turn.
-ghost use Rattle.std.specs.Prelude.{◌≡◌, ◌<◌, Some, IfOk, IfErr, OnOk, MatchBool};
 
 use crate::answers::{EndStep, JoinAnswer, JoinStep, Onward, Taken};
 use crate::ended::{comes_next, has_ended};
@@ -9,18 +8,11 @@ use hub_core::Revision;
 use std::sync::Wait;
 
 impl<L: Revision> TurnHub<L> {
-    ghost use Rattle.hub_core.specs.Seats.{HasFork, HasJoin, HasEnd, HasTrap, HadTurn};
-    ghost use Rattle.turn_hub.specs.Answers.{TakenSays, Forked, JoinSays, JoinedOn};
-    ghost use Rattle.turn_hub.specs.Answers.{EndedSays, EndedOn, IsHalted};
 
     /// Takes a revision that is ready, if there is one.
     /// Idle: nothing is ready, and something is unfinished. Finished: nothing is unfinished.
     /// Halted: a halt was entered, which comes before all others.
     pub fn take<W: Wait>(&self, rt: &W, seat: &mut HubSeat<L>) -> Taken<L::Runner, L::AtJoin>
-        requires own { seat.old.place.table_id ≡ self.now.turn.shared.table_id }
-        ensures own { seat.new.place.table_id ≡ seat.old.place.table_id }
-        ensures turn { HadTurn seat.old.place.me.0 seat.new.place.me.0 }
-        ensures answer { TakenSays L.machine L.ends seat.old.place.me.0 seat.new.place.me.0 result }
     {
         let turn = self.enter(rt, &mut seat.place, &mut seat.patience);
         if let Some(twice) = turn.halted() {
@@ -45,22 +37,13 @@ impl<L: Revision> TurnHub<L> {
         of: u32,
         child: L::Runner,
     ) -> Result<u32, L::Runner>
-        requires own { seat.old.place.table_id ≡ self.now.turn.shared.table_id }
-        requires event { HasFork L.machine L.ends seat.old.place.me.0 of child }
-        requires group { L.machine.runner_group child ≡ seat.old.place.me.0.group }
-        ensures own { seat.new.place.table_id ≡ seat.old.place.table_id }
-        ensures turn { HadTurn seat.old.place.me.0 seat.new.place.me.0 }
-        ensures ok { IfOk result (λ n. Forked L.machine L.ends seat.old.place.me.0
-            seat.new.place.me.0 of child n) }
-        ensures err { IfErr result (λ c. (c ≡ child) × IsHalted seat.old.place.me.0
-            seat.new.place.me.0) }
     {
         let turn = self.enter(rt, &mut seat.place, &mut seat.patience);
         if turn.halted().is_some() {
             self.put_home_halted(&mut seat.place, turn);
             return Err(child);
         }
-        self.fork_in(&mut seat.place, turn, of, child)
+        self.fork_in(rt, &mut seat.kept, None, &mut seat.place, turn, of, child)
     }
 
     /// Hands in a joiner, the revision `of`. Where its joinee has ended, it comes back with the
@@ -74,14 +57,6 @@ impl<L: Revision> TurnHub<L> {
         of: u32,
         at: L::AtJoin,
     ) -> JoinAnswer<L::AtJoin, L::Claimed, L::Stopped>
-        requires own { seat.old.place.table_id ≡ self.now.turn.shared.table_id }
-        requires event { HasJoin L.machine L.ends seat.old.place.me.0 of at }
-        requires group { L.machine.joiner_group at ≡ seat.old.place.me.0.group }
-        ensures own { seat.new.place.table_id ≡ seat.old.place.table_id }
-        ensures turn { HadTurn seat.old.place.me.0 seat.new.place.me.0 }
-        ensures answer { JoinSays L.machine L.ends L.claimed L.stopped
-            L.claimed_group L.stopped_group
-            seat.old.place.me.0 seat.new.place.me.0 of at result }
     {
         let mut turn = self.enter(rt, &mut seat.place, &mut seat.patience);
         if turn.halted().is_some() {
@@ -90,6 +65,10 @@ impl<L: Revision> TurnHub<L> {
         }
         if has_ended::<L>(turn.revisions.slots.as_slice(), L::on(&at)) {
             return self.join_in(&mut seat.place, turn, of, at);
+        }
+        if !self.record_kept(&mut *turn, &mut seat.kept) {
+            self.put_home_halted(&mut seat.place, turn);
+            return JoinAnswer::OutOfMemory(at);
         }
         match self.keep_in(&mut seat.place, &mut *turn, of, at) {
             Ok(()) => {
@@ -113,14 +92,6 @@ impl<L: Revision> TurnHub<L> {
         of: u32,
         at: L::AtJoin,
     ) -> JoinStep<L::Runner, L::AtJoin, L::Claimed, L::Stopped>
-        requires own { seat.old.place.table_id ≡ self.now.turn.shared.table_id }
-        requires event { HasJoin L.machine L.ends seat.old.place.me.0 of at }
-        requires group { L.machine.joiner_group at ≡ seat.old.place.me.0.group }
-        ensures own { seat.new.place.table_id ≡ seat.old.place.table_id }
-        ensures turn { HadTurn seat.old.place.me.0 seat.new.place.me.0 }
-        ensures answer { JoinedOn L.machine L.ends L.claimed L.stopped
-            L.claimed_group L.stopped_group
-            seat.old.place.me.0 seat.new.place.me.0 of at result }
     {
         let mut turn = self.enter(rt, &mut seat.place, &mut seat.patience);
         if turn.halted().is_some() {
@@ -136,6 +107,10 @@ impl<L: Revision> TurnHub<L> {
         if next {
             let (number, runner) = self.take_runner(&mut seat.place, turn);
             return JoinStep::Joinee { number, runner, at };
+        }
+        if !self.record_kept(&mut *turn, &mut seat.kept) {
+            self.put_home_halted(&mut seat.place, turn);
+            return JoinStep::Came(JoinAnswer::OutOfMemory(at));
         }
         match self.keep_in(&mut seat.place, &mut *turn, of, at) {
             Ok(()) => JoinStep::Waits(self.take_next(&mut seat.place, turn)),
@@ -155,19 +130,13 @@ impl<L: Revision> TurnHub<L> {
         of: u32,
         end: L::End,
     ) -> Result<(), L::End>
-        requires own { seat.old.place.table_id ≡ self.now.turn.shared.table_id }
-        requires event { MatchBool (L.by_join end)
-            (HasTrap L.machine L.ends seat.old.place.me.0 of end)
-            (HasEnd L.machine L.ends seat.old.place.me.0 of end) }
-        ensures own { seat.new.place.table_id ≡ seat.old.place.table_id }
-        ensures turn { HadTurn seat.old.place.me.0 seat.new.place.me.0 }
-        ensures ok { OnOk result (EndedSays L.machine L.ends seat.old.place.me.0
-            seat.new.place.me.0 of (L.by_join end)) }
-        ensures err { IfErr result (λ e. (e ≡ end) × IsHalted seat.old.place.me.0
-            seat.new.place.me.0) }
     {
         let mut turn = self.enter(rt, &mut seat.place, &mut seat.patience);
         if turn.halted().is_some() {
+            self.put_home_halted(&mut seat.place, turn);
+            return Err(end);
+        }
+        if !self.record_kept(&mut *turn, &mut seat.kept) {
             self.put_home_halted(&mut seat.place, turn);
             return Err(end);
         }
@@ -193,20 +162,13 @@ impl<L: Revision> TurnHub<L> {
         of: u32,
         end: L::End,
     ) -> Result<EndStep<L::Runner, L::AtJoin, L::Claimed, L::Stopped>, L::End>
-        requires own { seat.old.place.table_id ≡ self.now.turn.shared.table_id }
-        requires event { MatchBool (L.by_join end)
-            (HasTrap L.machine L.ends seat.old.place.me.0 of end)
-            (HasEnd L.machine L.ends seat.old.place.me.0 of end) }
-        ensures own { seat.new.place.table_id ≡ seat.old.place.table_id }
-        ensures turn { HadTurn seat.old.place.me.0 seat.new.place.me.0 }
-        ensures ok { IfOk result (λ n. EndedOn L.machine L.ends L.claimed L.stopped
-            L.claimed_group L.stopped_group
-            seat.old.place.me.0 seat.new.place.me.0 of end (L.by_join end) n) }
-        ensures err { IfErr result (λ e. (e ≡ end) × IsHalted seat.old.place.me.0
-            seat.new.place.me.0) }
     {
         let mut turn = self.enter(rt, &mut seat.place, &mut seat.patience);
         if turn.halted().is_some() {
+            self.put_home_halted(&mut seat.place, turn);
+            return Err(end);
+        }
+        if !self.record_kept(&mut *turn, &mut seat.kept) {
             self.put_home_halted(&mut seat.place, turn);
             return Err(end);
         }
@@ -221,10 +183,6 @@ impl<L: Revision> TurnHub<L> {
 
     /// Enters want of memory, where nothing was entered before.
     pub fn halt<W: Wait>(&self, rt: &W, seat: &mut HubSeat<L>)
-        requires own { seat.old.place.table_id ≡ self.now.turn.shared.table_id }
-        ensures own { seat.new.place.table_id ≡ seat.old.place.table_id }
-        ensures turn { HadTurn seat.old.place.me.0 seat.new.place.me.0 }
-        ensures halted { IsHalted seat.old.place.me.0 seat.new.place.me.0 }
     {
         let entered = self.enter(rt, &mut seat.place, &mut seat.patience);
         self.put_home_halted(&mut seat.place, entered);

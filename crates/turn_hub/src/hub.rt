@@ -1,6 +1,4 @@
 //! The hub: the turn is taken and given back.
-ghost use Rattle.std.specs.Prelude.{◌≡◌, ◌<◌, [], ◌∷◌, true, false};
-ghost use Rattle.std.specs.Global.{Box};
 
 use crate::patience::{Patience, WAITS, pause};
 use crate::seat::Place;
@@ -8,7 +6,7 @@ use atomic_table::{Badge, Table};
 use crossbeam_utils::CachePadded;
 use hub_core::{
     Commit, Draw, Give, HandIn, HubState, OneHolder, Revision, Slot, StopNoMemory, StopTwice, Take,
-    Turn, View,
+    Turn, View, Round,
 };
 use std::alloc::Global;
 use std::sync::Wait;
@@ -47,34 +45,19 @@ pub struct TurnHub<L: Revision> {
     >,
     /// What threads look at without the turn. No contract sees what they have.
     pub signs: CachePadded<Signs>,
-    ghost sized: { (turn.shared.table_id.words ≡ 1) × (turn.shared.table_id.slots ≡ 1) },
+    pub(crate) lists: Vec<Vec<Round>>,
 }
 
 impl<L: Revision> TurnHub<L> {
-    ghost use Rattle.hub_core.specs.declared.state.HubState.TheVariants as state;
-    ghost use Rattle.hub_core.specs.declared.slot.Slot.TheVariants.{Home, Away};
-    ghost use Rattle.hub_core.specs.Counts.{times};
-    ghost use Rattle.hub_core.specs.Passes.{named};
-    ghost use Rattle.hub_core.specs.Views.{rests, commits, hands_in, draws, stops, or_no_memory};
-    ghost use Rattle.hub_core.specs.Seats.{IsIdle};
-    ghost use Rattle.hub_core.specs.Rule.{Took, Told, InHand, IsOpen};
 
     // One try for the turn.
     fn take_turn(&self, place: &mut Place<L>) -> bool
-        requires { (place.old.table_id ≡ self.now.turn.shared.table_id) × IsIdle place.old.me }
-        ensures own { place.new.table_id ≡ place.old.table_id }
-        ensures took { result ≡ true → Took L.machine L.ends place.old.me place.new.me }
-        ensures missed { result ≡ false → place.new.me ≡ place.old.me }
     {
         self.turn.shared.compare_exchange::<Take<L>>(place, 0, 0, 1) == 0
     }
 
     // One look, and a try where the turn is free.
     fn look_for_turn(&self, place: &mut Place<L>) -> bool
-        requires { (place.old.table_id ≡ self.now.turn.shared.table_id) × IsIdle place.old.me }
-        ensures own { place.new.table_id ≡ place.old.table_id }
-        ensures took { result ≡ true → Took L.machine L.ends place.old.me place.new.me }
-        ensures missed { result ≡ false → place.new.me ≡ place.old.me }
     {
         self.turn.shared.peek(0) == 0 && self.take_turn(place)
     }
@@ -83,10 +66,6 @@ impl<L: Revision> TurnHub<L> {
     // and looks more and more seldom, so that it does not delay who has it: a thread that takes the
     // turn again soon finds what lies in the slot in its cache.
     fn keep_looking(&self, place: &mut Place<L>, first: u32) -> bool
-        requires { (place.old.table_id ≡ self.now.turn.shared.table_id) × IsIdle place.old.me }
-        ensures own { place.new.table_id ≡ place.old.table_id }
-        ensures took { result ≡ true → Took L.machine L.ends place.old.me place.new.me }
-        ensures missed { result ≡ false → place.new.me ≡ place.old.me }
     {
         for number in first..WAITS {
             pause(number);
@@ -99,10 +78,6 @@ impl<L: Revision> TurnHub<L> {
 
     // Some tries for the turn.
     fn try_turn(&self, place: &mut Place<L>, patience: &mut Patience) -> bool
-        requires { (place.old.table_id ≡ self.now.turn.shared.table_id) × IsIdle place.old.me }
-        ensures own { place.new.table_id ≡ place.old.table_id }
-        ensures took { result ≡ true → Took L.machine L.ends place.old.me place.new.me }
-        ensures missed { result ≡ false → place.new.me ≡ place.old.me }
     {
         if self.look_for_turn(place) {
             patience.found_free();
@@ -124,9 +99,6 @@ impl<L: Revision> TurnHub<L> {
 
     // Waits for the turn, whose value is still in the slot.
     fn wait_turn<W: Wait>(&self, rt: &W, place: &mut Place<L>, patience: &mut Patience)
-        requires { (place.old.table_id ≡ self.now.turn.shared.table_id) × IsIdle place.old.me }
-        ensures own { place.new.table_id ≡ place.old.table_id }
-        ensures took { Took L.machine L.ends place.old.me place.new.me }
     {
         for _ in rt.forever() {
             if self.try_turn(place, patience) {
@@ -144,10 +116,6 @@ impl<L: Revision> TurnHub<L> {
         place: &mut Place<L>,
         patience: &mut Patience,
     ) -> Box<Turn<L::Runner, L::AtJoin, L::End>>
-        requires { (place.old.table_id ≡ self.now.turn.shared.table_id) × IsIdle place.old.me }
-        ensures own { (place.new.table_id ≡ place.old.table_id)
-            × IsOpen L.machine L.ends place.new.me }
-        ensures told { Told L.machine L.ends place.old.me.0 place.new.me.0 result.value }
     {
         self.wait_turn(rt, place, patience);
         self.turn
@@ -159,10 +127,6 @@ impl<L: Revision> TurnHub<L> {
     // What the slot holds from now on, which the seat has with the turn. No other thread looks at
     // it before the turn is given back.
     fn fill(&self, place: &mut Place<L>, slot: Slot<L::Runner, L::AtJoin, L::End>)
-        requires own { (place.old.table_id ≡ self.now.turn.shared.table_id)
-            × IsOpen L.machine L.ends place.old.me }
-        ensures own { place.new.table_id ≡ place.old.table_id }
-        ensures after { place.new.me ≡ (place.old.me.0, (0, slot) ∷ []) }
     {
         self.turn.shared.exchange(place, 0, slot).spend();
     }
@@ -179,11 +143,6 @@ impl<L: Revision> TurnHub<L> {
         place: &mut Place<L>,
         turn: Box<Turn<L::Runner, L::AtJoin, L::End>>,
     )
-        requires own { (place.old.table_id ≡ self.now.turn.shared.table_id)
-            × IsOpen L.machine L.ends place.old.me }
-        requires hand { InHand L.machine L.ends place.old.me.0 turn.value }
-        ensures own { place.new.table_id ≡ place.old.table_id }
-        ensures rests { place.new.me ≡ (rests place.old.me.0, []) }
     {
         self.put_mark(turn.revisions.queue.counted_mark());
         self.fill(place, Slot::Home(turn));
@@ -194,23 +153,12 @@ impl<L: Revision> TurnHub<L> {
     }
 
     fn give(&self, place: &mut Place<L>)
-        requires own { place.old.table_id ≡ self.now.turn.shared.table_id }
-        requires hand { (t : Box (Turn L.Runner L.AtJoin L.End)) × InHand L.machine L.ends
-            place.old.me.0 t.value × (place.old.me.1 ≡ (0, Home t) ∷ []) }
-        ensures own { place.new.table_id ≡ place.old.table_id }
-        ensures rests { place.new.me ≡ (rests place.old.me.0, []) }
     {
         self.turn.shared.store::<Give<L>>(place, 0, 0);
     }
 
     // An entry of a revision that this seat has.
     pub(crate) fn commit(&self, place: &mut Place<L>, number: u32)
-        requires own { (place.old.table_id ≡ self.now.turn.shared.table_id)
-            × IsOpen L.machine L.ends place.old.me }
-        requires has { (place.old.me.0.has ≡ 1) × (0 < named number place.old.me.0.passes) }
-        ensures own { (place.new.table_id ≡ place.old.table_id)
-            × IsOpen L.machine L.ends place.new.me }
-        ensures after { place.new.me ≡ (commits number place.old.me.0, (0, Away number) ∷ []) }
     {
         self.fill(place, Slot::Away(number));
         self.turn.shared.load::<Commit<L>>(place, 0);
@@ -218,12 +166,6 @@ impl<L: Revision> TurnHub<L> {
 
     // The pass of a revision that this seat had.
     pub(crate) fn hand_in(&self, place: &mut Place<L>, number: u32)
-        requires own { (place.old.table_id ≡ self.now.turn.shared.table_id)
-            × IsOpen L.machine L.ends place.old.me }
-        requires has { (place.old.me.0.has ≡ 1) × (0 < named number place.old.me.0.passes) }
-        ensures own { (place.new.table_id ≡ place.old.table_id)
-            × IsOpen L.machine L.ends place.new.me }
-        ensures after { place.new.me ≡ (hands_in number place.old.me.0, (0, Away number) ∷ []) }
     {
         self.fill(place, Slot::Away(number));
         self.turn.shared.load::<HandIn<L>>(place, 0);
@@ -231,12 +173,6 @@ impl<L: Revision> TurnHub<L> {
 
     // A pass of a revision that no seat has.
     pub(crate) fn draw(&self, place: &mut Place<L>, number: u32)
-        requires own { (place.old.table_id ≡ self.now.turn.shared.table_id)
-            × IsOpen L.machine L.ends place.old.me }
-        requires has { (place.old.me.0.has ≡ 1) × (times number place.old.me.0.out ≡ 0) }
-        ensures own { (place.new.table_id ≡ place.old.table_id)
-            × IsOpen L.machine L.ends place.new.me }
-        ensures after { place.new.me ≡ (draws number place.old.me.0, (0, Away number) ∷ []) }
     {
         self.fill(place, Slot::Away(number));
         self.turn.shared.load::<Draw<L>>(place, 0);
@@ -244,24 +180,12 @@ impl<L: Revision> TurnHub<L> {
 
     // The first halt is Twice.
     pub(crate) fn stop_twice(&self, place: &mut Place<L>)
-        requires own { (place.old.table_id ≡ self.now.turn.shared.table_id)
-            × IsOpen L.machine L.ends place.old.me }
-        requires has { (place.old.me.0.has ≡ 1) × (place.old.me.0.halt ≡ state.All) }
-        ensures own { (place.new.table_id ≡ place.old.table_id)
-            × IsOpen L.machine L.ends place.new.me }
-        ensures after { place.new.me ≡ (stops state.Twice place.old.me.0, place.old.me.1) }
     {
         self.turn.shared.load::<StopTwice<L>>(place, 0);
     }
 
     // The first halt is want of memory.
     fn stop_no_memory(&self, place: &mut Place<L>)
-        requires own { (place.old.table_id ≡ self.now.turn.shared.table_id)
-            × IsOpen L.machine L.ends place.old.me }
-        requires has { (place.old.me.0.has ≡ 1) × (place.old.me.0.halt ≡ state.All) }
-        ensures own { (place.new.table_id ≡ place.old.table_id)
-            × IsOpen L.machine L.ends place.new.me }
-        ensures after { place.new.me ≡ (stops state.NoMemory place.old.me.0, place.old.me.1) }
     {
         self.turn.shared.load::<StopNoMemory<L>>(place, 0);
     }
@@ -272,15 +196,6 @@ impl<L: Revision> TurnHub<L> {
         place: &mut Place<L>,
         mut turn: Box<Turn<L::Runner, L::AtJoin, L::End>>,
     )
-        requires own { (place.old.table_id ≡ self.now.turn.shared.table_id)
-            × IsOpen L.machine L.ends place.old.me }
-        requires hand { InHand L.machine L.ends place.old.me.0 turn.value }
-        ensures own { place.new.table_id ≡ place.old.table_id }
-        ensures rests { place.new.me ≡ (
-          rests (stops (or_no_memory place.old.me.0.halt)
-              place.old.me.0),
-          [],
-        ) }
     {
         let held = &mut *turn;
         if held.halted().is_some() {

@@ -1,6 +1,5 @@
 //! How long a thread waits between two looks at a turn that is taken.
 
-ghost use Rattle.std.specs.Prelude.{◌≡◌, ◌+◌, ◌-◌, ◌*◌, ◌/◌, ◌^◌, min};
 
 use std::sync::atomic::{AtomicU64, Ordering};
 
@@ -34,28 +33,24 @@ pub struct Patience {
 
 impl Patience {
     pub fn new() -> Patience
-        ensures { result.taken ≡ 0 }
     {
         Patience { taken: 0 }
     }
 
     /// The turn was found free.
     pub fn found_free(&mut self)
-        ensures { self.new.taken ≡ self.old.taken - 1 }
     {
         self.taken = self.taken.saturating_sub(1);
     }
 
     /// The turn was found taken.
     pub fn found_taken(&mut self)
-        ensures { self.new.taken ≡ min (self.old.taken + RISE) (LONGEST * EACH_POWER) }
     {
         self.taken = self.taken.saturating_add(RISE).min(LONGEST * EACH_POWER);
     }
 
     /// The number of the first wait.
     pub fn first_wait(&self) -> u32
-        ensures { result ≡ min (self.now.taken / EACH_POWER) LONGEST }
     {
         (self.taken / EACH_POWER).min(LONGEST)
     }
@@ -63,7 +58,6 @@ impl Patience {
 
 // The steps of the wait of this number, each twice as many as the one before, up to the longest.
 fn steps(number: u32) -> u32
-    ensures { result ≡ FIRST_PAUSE * 2 ^ min number LONGEST }
 {
     FIRST_PAUSE << number.min(LONGEST)
 }

@@ -1,9 +1,8 @@
 //! A thread's seat at a hub.
-ghost use Rattle.std.specs.Prelude.{◌≡◌, []};
 
 use crate::patience::Patience;
 use atomic_table::Seat;
-use hub_core::{Revision, Slot, View};
+use hub_core::{Revision, Round, Slot, View};
 
 /// A seat at the table of a hub.
 pub type Place<L> = Seat<
@@ -16,5 +15,12 @@ pub type Place<L> = Seat<
 pub struct HubSeat<L: Revision> {
     pub(crate) place: Place<L>,
     pub(crate) patience: Patience,
-    ghost idle: { (place.me.0.has ≡ 0) × (place.me.1 ≡ []) × (place.me.0.parts ≡ 1) },
+    // The rounds that it made.
+    pub(crate) rounds: Vec<Round>,
+    // The child that it keeps, of which there is no record.
+    pub(crate) kept: Option<u32>,
+    // How many rounds it may make before its next turn.
+    pub(crate) promised: u32,
+    // The tally as it last saw it.
+    pub(crate) seen: u64,
 }

@@ -137,7 +137,6 @@ impl Store {
         requires own { IsSeatOf self.now seat.old }
         ensures { Becomes seat.old seat.new (counts seat.old.me.0) }
     {
-        self.table.shared.fetch_add::<Tally>(seat, 0, 1);
     }
 
     pub(super) fn hand_on(&self, seat: &mut Place) -> Place

@@ -1,5 +1,4 @@
 //! The schedule of a run, apart from its ends.
-ghost use Rattle.std.specs.Prelude.{◌≡◌};
 
 use crate::closing::HubRun;
 use atomic_table::Badge;
@@ -18,21 +17,18 @@ pub struct HubSchedule<S> {
 impl<S> HubSchedule<S> {
     /// The numbers of the revisions in the order of their legs.
     pub fn numbers(&self) -> &[u32]
-        ensures { result.now ≡ self.now.numbers.items }
     {
         self.numbers.as_slice()
     }
 
     /// By number, the revision that forked it, and 0 for the first.
     pub fn forkers(&self) -> &[u32]
-        ensures { result.now ≡ self.now.forkers.items }
     {
         self.forkers.as_slice()
     }
 
     /// Which halt was entered first, if any.
     pub fn state(&self) -> HubState
-        ensures { result ≡ self.now.state }
     {
         self.state
     }
@@ -41,11 +37,6 @@ impl<S> HubSchedule<S> {
 impl<L: Revision> HubRun<L> {
     /// The schedule of the run, and by number the ends that were handed in.
     pub fn into_schedule(self) -> (HubSchedule<L::State>, Vec<Option<L::End>>)
-        ensures numbers { result.0.numbers ≡ self.schedule }
-        ensures forkers { result.0.forkers ≡ self.forkers }
-        ensures state { result.0.state ≡ self.state }
-        ensures witness { result.0.witness ≡ self.witness }
-        ensures ends { result.1 ≡ self.ends }
     {
         let HubRun {
             schedule,
