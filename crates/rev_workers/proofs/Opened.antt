@@ -9,6 +9,7 @@ use Rattle.rev_vm.specs.Opening.{AreShort, words_at_start}
 use Rattle.rev_vm.proofs.Mains.{start_many, starts_with}
 use Rattle.segment_store.specs.declared.store.Hold.{Hold}
 use Rattle.segment_store.specs.declared.store.Store.{Store}
+use Rattle.segment_store.specs.Places.{view}
 use Rattle.segment_store.specs.Names.{IsOf, IsSameHold}
 use Rattle.std.specs.List.{sum_by}
 use Rattle.std.proofs.lemmas.List.Sums.{sum_by-append}
@@ -26,7 +27,7 @@ words_many vars words e = words.ok.0 ∙ (ap length e ∙ start_many vars)
 pub opened_is :
     (vars : List CodeVar) (words : Vec ℕ Global) (s : Store) (h : Hold)
     → words.items ≡ words_at_start vars → AreShort words.items → IsOf s h
-    → h.seat.me.0.chain ≡ [] → h.own ≡ None → s.initial ≡ words → IsOpened vars s h
+    → (view h.seat).chain ≡ [] → h.own ≡ None → s.initial ≡ words → IsOpened vars s h
 opened_is vars words s h e short of chain own initial = (
   of,
   ap vec_len initial ∙ words_many vars words e,
@@ -48,7 +49,7 @@ opened_same vars s h k opened of same = (
   λ l w is.
       let q = opened.2 l w is in (
         ap (λ (es : List Entry). value s.masks (root_in s.initial k.own) es l) same.0
-            ∙ (ap (λ o. value s.masks (root_in s.initial o) h.seat.me.0.chain l) same.1 ∙ q.0),
+            ∙ (ap (λ o. value s.masks (root_in s.initial o) (view h.seat).chain l) same.1 ∙ q.0),
         q.1,
       ),
 )

@@ -11,12 +11,8 @@ use Rattle.leg_run.specs.declared.setting.CodeSetting.{CodeSetting}
 use Rattle.rev_vm.specs.Starts.{run_under}
 use Rattle.run_revision.specs.Hands.{HandValue}
 use Rattle.segment_store.specs.declared.store.Store.{Store}
-use Rattle.segment_store.specs.Group.{group_of}
+use Rattle.segment_store.specs.Group.{store_group}
 use Rattle.version_map.specs.Composing.{Merges}
-
--- what names the store in groups
-abbrev pub store_group : Store → List ℕ
-store_group s = group_of s.table.shared.table_id
 
 abbrev pub IsHandAt : Store → HandValue → Type 0
 IsHandAt s h = h.group ≡ store_group s

@@ -2,13 +2,13 @@
 ghost use Rattle.std.specs.Prelude.{◌≡◌, ◌≢◌, ◌<◌, ◌^◌, All, IfErr, IfOk, IfSome, length, map};
 ghost use Rattle.block_run.specs.Area.{count};
 ghost use Rattle.rev_vm.specs.Starts.{run_under};
-ghost use Rattle.segment_store.specs.Group.{closed_group};
+ghost use Rattle.segment_store.specs.Group.{closed_group, store_group};
 ghost use Rattle.segment_store.specs.Names.{IsSeatOf};
 ghost use Rattle.hub_core.specs.declared.state.HubState.TheVariants.{NoMemory};
 ghost use Rattle.turn_hub.specs.Names.{run_state, run_schedule};
 ghost use Rattle.run_revision.specs.CodeRuns.{IsOfCode};
 ghost use Rattle.merge_kernels.specs.Terms.{definition};
-ghost use Rattle.rev_workers.specs.Hands.{AreMergesFor, IsHandAt, store_group};
+ghost use Rattle.rev_workers.specs.Hands.{AreMergesFor, IsHandAt};
 ghost use Rattle.rev_workers.specs.Plans.{IsPlanFor, planned};
 ghost use Rattle.rev_workers.specs.Ran.{IsNotRan};
 ghost use Rattle.rev_workers.specs.Runs.{IsRunOfCode, IsSameRun};

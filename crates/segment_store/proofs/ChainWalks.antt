@@ -2,12 +2,11 @@
 use Rattle.std.proofs.Common.{◌≡◌, ℕ, ◌+◌, ◌-◌, ◌/◌, ◌%◌, slice_index, ◌<◌, Bool, cond, List, []}
 use Rattle.std.proofs.Common.{◌∷◌, ◌++◌, length, sym, refl, ap, ◌∙◌, subst, arith, inl, inr, ne_eqb}
 use Rattle.std.proofs.Common.{eq-eqb, ◌≢◌}
-use Rattle.atomic_table.specs.declared.shared.Seat.{Seat}
+use Rattle.segment_store.specs.Places.{Place, view, number, seat_name}
 use Rattle.segment_store.specs.declared.board.SegmentView.{SegmentView}
 use Rattle.segment_store.specs.Same.{IsWord, IsSameSeat, Becomes}
 use Rattle.segment_store.specs.Entry.{Entry, Look}
 use Rattle.segment_store.specs.Store.{look, first_of, rest_of, Has, pops, drops}
-use Rattle.atomic_table.specs.Table.{Me}
 use Rattle.segment_store.specs.Base.{word_of, bit_of, value, Known, Whole, Sound, AllWhole, Rests}
 use Rattle.segment_store.specs.Base.{logged}
 use Rattle.std.specs.Int.{bit_at}
@@ -126,15 +125,15 @@ visit root words stride masks l at left chain g h = let t = g.tail in
     }
 
 -- what a load of the word i of a segment of the chain gives
-pub segment_word : (e : Entry) (s : Seat (Unit {0}) SegmentView) (at i x : ℕ) → Has e s.me.0.chain
+pub segment_word : (e : Entry) (s : Place) (at i x : ℕ) → Has e (view s).chain
     → at ≡ e.seg → IsWord s (at + i) x → Known e i → x ≡ word_of e i
 segment_word e s at i x has seg word known =
     word e (word_of e i) has (ap (λ (n : ℕ). look e.body (n + i)) seg ∙ known)
 
 -- what a load of the segment's word i gives
 pub loaded : (root : List ℕ) (words stride masks l at left i x : ℕ) (chain : List Entry)
-    (a : At root words stride masks l at left chain) (s : Seat (Unit {0}) SegmentView)
-    → s.me.0.chain ≡ chain → IsWord s (at + i) x → Known a.e i
+    (a : At root words stride masks l at left chain) (s : Place)
+    → (view s).chain ≡ chain → IsWord s (at + i) x → Known a.e i
     → x ≡ word_of a.e i
 loaded root words stride masks l at left i x chain a s same word known =
     segment_word a.e s at i x (subst (Has a.e) (sym same) a.has) a.seg word known
@@ -143,16 +142,16 @@ pub row_of : (masks n l : ℕ) → masks ≡ rows n → l < n → l / 64 < masks
 row_of masks n l is h = subst (λ (z : ℕ). l / 64 < z) (sym is) (rows_over n l h)
 
 -- what a load of the mask word of the location says of its bit
-pub bit_read : (words stride masks segment l x : ℕ) (s : Seat (Unit {0}) SegmentView) (e : Entry)
-    → Has e s.me.0.chain → segment ≡ e.seg → Whole words stride masks e
+pub bit_read : (words stride masks segment l x : ℕ) (s : Place) (e : Entry)
+    → Has e (view s).chain → segment ≡ e.seg → Whole words stride masks e
     → IsWord s (segment + (2 + l / 64)) x → l / 64 < masks → bit_at x (l % 64) ≡ bit_of e l
 bit_read words stride masks segment l x s e has seg whole word low = let i : ℕ = 2 + l / 64 in
     ap (λ (z : ℕ). bit_at z (l % 64))
     (segment_word e s segment i x has seg word (whole.header i (omega arith) (omega arith)))
 
 pub bit_loaded : (root : List ℕ) (words stride masks l at left x : ℕ) (chain : List Entry)
-    (a : At root words stride masks l at left chain) (s : Seat (Unit {0}) SegmentView)
-    → s.me.0.chain ≡ chain → IsWord s (at + (2 + l / 64)) x → l / 64 < masks
+    (a : At root words stride masks l at left chain) (s : Place)
+    → (view s).chain ≡ chain → IsWord s (at + (2 + l / 64)) x → l / 64 < masks
     → bit_at x (l % 64) ≡ bit_of a.e l
 bit_loaded root words stride masks l at left x chain a s same word low =
     bit_read words stride masks at l x s a.e (subst (Has a.e) (sym same) a.has) a.seg a.whole word
@@ -194,8 +193,8 @@ pub rests_as : (words stride masks words' stride' masks' first depth : ℕ) (v :
 rests_as words stride masks words' stride' masks' first depth v r a b c =
     subst (λ (z : ℕ × ℕ × ℕ). Rests z.0 z.1 z.2 first depth v) (λ i. (sym a i, sym b i, sym c i)) r
 
-pub chain_of : (s t : Seat (Unit {0}) SegmentView) → t.me ≡ s.me → t.me.0.chain ≡ s.me.0.chain
-chain_of s t e = ap (λ (m : SegmentView × List (ℕ × Unit {0})). m.0.chain) e
+pub chain_of : (s t : Place) → view t ≡ view s → (view t).chain ≡ (view s).chain
+chain_of s t e = ap (λ (v : SegmentView). v.chain) e
 
 pub sound : (words stride masks : ℕ) (es : List Entry) → AllWhole words stride masks es
     → Sound words stride masks es
@@ -219,37 +218,36 @@ all_whole words stride masks es s e before after q =
     sound_at words stride masks e before after (subst (Sound words stride masks) q s)
 
 -- a seat whose chain is given up segment by segment
-pub record Falling (words stride masks at left : ℕ) (s t : Seat (Unit {0}) SegmentView) : Type 0 where
-  pub head : at ≡ first_of t.me.0.chain
-  pub many : left ≡ length t.me.0.chain
-  pub sounds : Sound words stride masks t.me.0.chain
-  pub single : t.me.0.extra ≡ 0
-  pub build : t.me.0.build ≡ s.me.0.build
-  pub holds : t.me.0.holds ≡ s.me.0.holds
-  pub left_same : t.me.0.left ≡ s.me.0.left
-  pub log : t.me.0.log ≡ s.me.0.log
-  pub alone : s.me.0.alone ≡ 0 → t.me.0.alone ≡ 0
-  pub slots : t.me.1 ≡ s.me.1
-  pub table : t.table_id ≡ s.table_id
-  pub number : t.id ≡ s.id
+pub record Falling (words stride masks at left : ℕ) (s t : Place) : Type 0 where
+  pub head : at ≡ first_of (view t).chain
+  pub many : left ≡ length (view t).chain
+  pub sounds : Sound words stride masks (view t).chain
+  pub single : (view t).extra ≡ 0
+  pub build : (view t).build ≡ (view s).build
+  pub holds : (view t).holds ≡ (view s).holds
+  pub left_same : (view t).left ≡ (view s).left
+  pub log : (view t).log ≡ (view s).log
+  pub alone : (view s).alone ≡ 0 → (view t).alone ≡ 0
+  pub table : seat_name t ≡ seat_name s
+  pub number : number t ≡ number s
 
 -- what a load of a word of the head gives
-pub head_word : (e : Entry) (more : List Entry) (s : Seat (Unit {0}) SegmentView) (at i x : ℕ)
-    → s.me.0.chain ≡ e ∷ more → at ≡ e.seg → IsWord s (at + i) x → Known e i → x ≡ word_of e i
+pub head_word : (e : Entry) (more : List Entry) (s : Place) (at i x : ℕ)
+    → (view s).chain ≡ e ∷ more → at ≡ e.seg → IsWord s (at + i) x → Known e i → x ≡ word_of e i
 head_word e more s at i x is seg word known =
     segment_word e s at i x (subst (Has e) (sym is) (inl refl)) seg word known
 
-pub falls : (words stride masks at left next : ℕ) (s t u : Seat (Unit {0}) SegmentView)
+pub falls : (words stride masks at left next : ℕ) (s t u : Place)
     → Falling words stride masks at left s t → 0 < left
-    → ((e : Entry) (more : List Entry) → t.me.0.chain ≡ e ∷ more → Whole words stride masks e
-    → next ≡ word_of e 1) → Becomes t u (pops t.me.0)
+    → ((e : Entry) (more : List Entry) → (view t).chain ≡ e ∷ more → Whole words stride masks e
+    → next ≡ word_of e 1) → Becomes t u (pops (view t))
     → Falling words stride masks next (left - 1) s u
 falls words stride masks at left next s t u f h word b = let many = f.many in
-    let p = top_of words stride masks at t.me.0.chain f.head f.sounds (omega arith) in
-    let tail : rest_of t.me.0.chain ≡ p.more = ap rest_of p.is in
-    let is : u.me.0 ≡ pops t.me.0 = ap (λ (m : Me (Unit {0}) SegmentView). m.0) b.2 in
-    let len : length t.me.0.chain ≡ length (p.e ∷ p.more) = ap length p.is in
-    let new : u.me.0.chain ≡ p.more = ap (λ (v : SegmentView). v.chain) is ∙ tail in record {
+    let p = top_of words stride masks at (view t).chain f.head f.sounds (omega arith) in
+    let tail : rest_of (view t).chain ≡ p.more = ap rest_of p.is in
+    let is : view u ≡ pops (view t) = b.2 in
+    let len : length (view t).chain ≡ length (p.e ∷ p.more) = ap length p.is in
+    let new : (view u).chain ≡ p.more = ap (λ (v : SegmentView). v.chain) is ∙ tail in record {
       head = word p.e p.more p.is p.whole ∙ (p.up ∙ ap first_of (sym new));
       many = (let o : left - 1 ≡ length p.more = omega arith in o) ∙ ap length (sym new);
       sounds = subst (Sound words stride masks) (sym new) p.sounds;
@@ -259,16 +257,15 @@ falls words stride masks at left next s t u f h word b = let many = f.many in
       left_same = ap (λ (v : SegmentView). v.left) is ∙ f.left_same;
       log = ap (λ (v : SegmentView). v.log) is ∙ f.log;
       alone = λ _. ap (λ (v : SegmentView). v.alone) is;
-      slots = ap (λ (m : Me (Unit {0}) SegmentView). m.1) b.2 ∙ f.slots;
       table = b.0 ∙ f.table;
       number = b.1 ∙ f.number;
     }
 
-pub falls_same : (words stride masks at left : ℕ) (s t u : Seat (Unit {0}) SegmentView)
+pub falls_same : (words stride masks at left : ℕ) (s t u : Place)
     → Falling words stride masks at left s t → IsSameSeat t u
     → Falling words stride masks at left s u
 falls_same words stride masks at left s t u f b = let c = chain_of t u b.2 in
-    let v : u.me.0 ≡ t.me.0 = ap (λ (m : Me (Unit {0}) SegmentView). m.0) b.2 in record {
+    let v : view u ≡ view t = b.2 in record {
       head = f.head ∙ ap first_of (sym c);
       many = f.many ∙ ap length (sym c);
       sounds = subst (Sound words stride masks) (sym c) f.sounds;
@@ -278,17 +275,16 @@ falls_same words stride masks at left s t u f b = let c = chain_of t u b.2 in
       left_same = ap (λ (x : SegmentView). x.left) v ∙ f.left_same;
       log = ap (λ (x : SegmentView). x.log) v ∙ f.log;
       alone = λ none. ap (λ (x : SegmentView). x.alone) v ∙ f.alone none;
-      slots = ap (λ (m : Me (Unit {0}) SegmentView). m.1) b.2 ∙ f.slots;
       table = b.0 ∙ f.table;
       number = b.1 ∙ f.number;
     }
 
 -- a hold whose chain was given up to its end
-pub fallen : (words stride masks first depth at left : ℕ) (s t : Seat (Unit {0}) SegmentView)
+pub fallen : (words stride masks first depth at left : ℕ) (s t : Place)
     → Falling words stride masks at left s t → left ≡ 0
-    → Rests words stride masks first depth s.me.0 → Rests words stride masks 0 0 t.me.0
+    → Rests words stride masks first depth (view s) → Rests words stride masks 0 0 (view t)
 fallen words stride masks first depth at left s t f none r =
-    let bare = no_entries t.me.0.chain (sym f.many ∙ none) in record {
+    let bare = no_entries (view t).chain (sym f.many ∙ none) in record {
       single = f.single;
       not_alone = f.alone r.not_alone;
       not_building = f.build ∙ r.not_building;
@@ -296,15 +292,15 @@ fallen words stride masks first depth at left s t f none r =
       one_hold = f.holds ∙ r.one_hold;
       head = ap first_of (sym bare);
       deep = sym none ∙ f.many;
-      whole = all_whole words stride masks t.me.0.chain f.sounds;
+      whole = all_whole words stride masks (view t).chain f.sounds;
     }
 
 -- a hold whose chain was given up as far as others refer to it
-pub let_go : (words stride masks first depth at left : ℕ) (s t u : Seat (Unit {0}) SegmentView)
-    → Falling words stride masks at left s t → Becomes t u (drops t.me.0)
-    → Rests words stride masks first depth s.me.0 → Rests words stride masks 0 0 u.me.0
+pub let_go : (words stride masks first depth at left : ℕ) (s t u : Place)
+    → Falling words stride masks at left s t → Becomes t u (drops (view t))
+    → Rests words stride masks first depth (view s) → Rests words stride masks 0 0 (view u)
 let_go words stride masks first depth at left s t u f b r =
-    let is : u.me.0 ≡ drops t.me.0 = ap (λ (m : Me (Unit {0}) SegmentView). m.0) b.2 in
+    let is : view u ≡ drops (view t) = b.2 in
     subst (Rests words stride masks 0 0) (sym is) record {
       single = f.single;
       not_alone = refl;

@@ -6,7 +6,7 @@ use Rattle.std.proofs.Math.Nat.{mul-mod_left}
 use Rattle.segment_store.specs.Live.{live_segments}
 use Rattle.segment_store.specs.Closing.{out_of}
 use Rattle.segment_store.specs.Rule.{Rule}
-use mathlib.Core.Option.{some, some-injective, some-ne-none}
+use mathlib.Core.Option.{some, some-injective}
 use mathlib.Core.Logic.{dite}
 use native.Mathlib.Decide.{ℕ_discrete}
 use lib.ListN.{get_elem?}
@@ -79,7 +79,7 @@ closes words stride s r id v at no_chain no_build alone c b = climbs words strid
           omega arith))
 
 -- the k-th segment
-nth_segment : (words stride segments k : ℕ) → 1 < stride → words ≡ (segments + 1) * stride
+pub nth_segment : (words stride segments k : ℕ) → 0 < stride → words ≡ (segments + 1) * stride
     → k < segments → IsSegment words stride ((k + 1) * stride)
 nth_segment words stride segments k big is h = let lo : 1 * stride ≤ (k + 1) * stride =
     mul-le-mul_right stride (omega arith) in
@@ -93,16 +93,10 @@ none_live : (words stride segments : ℕ) (ws : List ℕ) → 1 < stride → wor
 none_live words stride segments ws big is dead zero h = refl
 none_live words stride segments ws big is dead (suc k) h = let r =
     none_live words stride segments ws big is dead k (omega arith) in
-    let z = dead ((k + 1) * stride) (nth_segment words stride segments k big is (omega arith)) in
+    let z = dead ((k + 1) * stride) (nth_segment words stride segments k (omega arith) is (omega arith)) in
     let q : cond (eqb (get_or ws ((k + 1) * stride) 0) 0) 0 1 ≡ 0 =
     ap (λ (b : Bool). cond b 0 1) (eq-eqb (get_or ws ((k + 1) * stride) 0) 0 z) in
     (λ i. r i + q i)
-
-pub found_is : {A : Type 0} (l : List A) (i : ℕ) (a d : A) → get_elem? l i ≡ some a
-    → get_or l i d ≡ a
-found_is [] i a d e = absurd (some-ne-none a (sym e))
-found_is (x ∷ xs) zero a d e = some-injective x a e
-found_is (x ∷ xs) (suc i) a d e = found_is xs i a d e
 
 -- where all views stand for fewer than 2^64 holds, those that were not gathered are counted exactly,
 -- and with none of them no segment has a count
@@ -126,11 +120,11 @@ exact words stride segments big rooms s r id v at no_chain no_build none_left li
 
 -- one more segment is counted
 pub counts_next : (stride : ℕ) (ws : List ℕ) (k live x y : ℕ) → live ≡ live_segments stride ws k
-    → get_elem? ws ((k + 1) * stride) ≡ some x → y ≡ cond (eqb x 0) 0 1
+    → x ≡ get_or ws ((k + 1) * stride) 0 → y ≡ cond (eqb x 0) 0 1
     → live + y ≡ live_segments stride ws (k + 1)
 counts_next stride ws k live x y a found e =
     let q : y ≡ cond (eqb (get_or ws ((k + 1) * stride) 0) 0) 0 1 = e
-    ∙ ap (λ (z : ℕ). cond (eqb z 0) 0 1) (sym (found_is ws ((k + 1) * stride) x 0 found)) in
+    ∙ ap (λ (z : ℕ). cond (eqb z 0) 0 1) found in
     let next : suc k ≡ k + 1 = omega arith in (λ i. a i + q i) ∙ ap (live_segments stride ws) next
 
 pub one_at_most : (b : Bool) → cond b 0 1 ≤ 1

@@ -4,8 +4,7 @@ use Rattle.std.proofs.Common.{ap, refl, ◌∙◌, subst, arith, eq-eqb, ne_eqb,
 use mathlib.Core.Option as m
 use mathlib.Core.Logic.{dite}
 use native.Mathlib.Decide.{ℕ_discrete}
-use Rattle.atomic_table.specs.declared.shared.Seat.{Seat}
-use Rattle.atomic_table.specs.Table.{Me}
+use Rattle.segment_store.specs.Places.{Place, view}
 use Rattle.version_map.specs.declared.delta.Delta.{Delta}
 use Rattle.std.specs.Int.{bit_at}
 use Rattle.std.proofs.lemmas.Nat.Bits.{bit_at-zero}
@@ -123,42 +122,42 @@ empty_row d row l zero lo hi =
     ∙ (ap (λ (z : ℕ). bit_at z (l % 64)) zero ∙ bit_at-zero (l % 64)))
 
 -- a part more
-pub fills_more : (s t u : Seat (Unit {0}) SegmentView) → Becomes s t (filled s.me.0 t.me.0.made)
-    → Becomes t u (filled t.me.0 u.me.0.made) → Becomes s u (filled s.me.0 u.me.0.made)
+pub fills_more : (s t u : Place) → Becomes s t (filled (view s) (view t).made)
+    → Becomes t u (filled (view t) (view u).made) → Becomes s u (filled (view s) (view u).made)
 fills_more s t u a b =
-    (b.0 ∙ a.0, b.1 ∙ a.1, b.2 ∙ ap (λ (x : Me (Unit {0}) SegmentView). (filled x.0 u.me.0.made, x.1)) a.2)
+    (b.0 ∙ a.0, b.1 ∙ a.1, b.2 ∙ ap (λ (x : SegmentView). filled x (view u).made) a.2)
 
 -- one more word
-pub puts_more : (s t u : Seat (Unit {0}) SegmentView) (i w : ℕ) → Becomes s t (filled s.me.0 t.me.0.made)
-    → Becomes t u (puts t.me.0 i w)
-    → Becomes s u (filled s.me.0 u.me.0.made)
-    × (record { at = i; word = w } ∷ t.me.0.made ≡ u.me.0.made)
-puts_more s t u i w a b = let made : u.me.0.made ≡ record { at = i; word = w } ∷ t.me.0.made =
-    ap (λ (x : Me (Unit {0}) SegmentView). x.0.made) b.2 in (
+pub puts_more : (s t u : Place) (i w : ℕ) → Becomes s t (filled (view s) (view t).made)
+    → Becomes t u (puts (view t) i w)
+    → Becomes s u (filled (view s) (view u).made)
+    × (record { at = i; word = w } ∷ (view t).made ≡ (view u).made)
+puts_more s t u i w a b = let made : (view u).made ≡ record { at = i; word = w } ∷ (view t).made =
+    ap (λ (x : SegmentView). x.made) b.2 in (
       (
         b.0 ∙ a.0,
         b.1 ∙ a.1,
-        b.2 ∙ (ap (λ (x : Me (Unit {0}) SegmentView). (puts x.0 i w, x.1)) a.2
-            ∙ ap (λ (ps : List Put). (filled s.me.0 ps, s.me.1)) (sym made)),
+        b.2 ∙ (ap (λ (x : SegmentView). puts x i w) a.2
+            ∙ ap (λ (ps : List Put). filled (view s) ps) (sym made)),
       ),
       sym made,
     )
 
 -- one word, as looks at the words that were put tell it
-pub put_look : (s u : Seat (Unit {0}) SegmentView) (i w : ℕ) → Becomes s u (puts s.me.0 i w)
-    → Becomes s u (filled s.me.0 u.me.0.made) × (look u.me.0.made i ≡ m.some w)
-    × ((j : ℕ) → j ≢ i → look u.me.0.made j ≡ look s.me.0.made j)
+pub put_look : (s u : Place) (i w : ℕ) → Becomes s u (puts (view s) i w)
+    → Becomes s u (filled (view s) (view u).made) × (look (view u).made i ≡ m.some w)
+    × ((j : ℕ) → j ≢ i → look (view u).made j ≡ look (view s).made j)
 put_look s u i w b = let p = puts_more s s u i w (refl, refl, refl) b in (
   p.0,
-  subst (λ (ps : List Put). look ps i ≡ m.some w) p.1 (look_here s.me.0.made i i w refl),
-  λ j ne. subst (λ (ps : List Put). look ps j ≡ look s.me.0.made j) p.1
-      (look_else s.me.0.made i j w (λ q. ne (sym q))),
+  subst (λ (ps : List Put). look ps i ≡ m.some w) p.1 (look_here (view s).made i i w refl),
+  λ j ne. subst (λ (ps : List Put). look ps j ≡ look (view s).made j) p.1
+      (look_else (view s).made i j w (λ q. ne (sym q))),
 )
 
 -- another one in its place
-pub put_again : (s t u : Seat (Unit {0}) SegmentView) (i w x : ℕ) → Becomes s t (puts s.me.0 i w)
-    → Becomes t u (puts t.me.0 i x)
-    → Becomes s u (filled s.me.0 u.me.0.made) × (look u.me.0.made i ≡ m.some x)
-    × ((j : ℕ) → j ≢ i → look u.me.0.made j ≡ look s.me.0.made j)
+pub put_again : (s t u : Place) (i w x : ℕ) → Becomes s t (puts (view s) i w)
+    → Becomes t u (puts (view t) i x)
+    → Becomes s u (filled (view s) (view u).made) × (look (view u).made i ≡ m.some x)
+    × ((j : ℕ) → j ≢ i → look (view u).made j ≡ look (view s).made j)
 put_again s t u i w x a b = let p = put_look s t i w a in let q = put_look t u i x b in
     (fills_more s t u p.0 q.0, q.1, λ j ne. q.2 j ne ∙ p.2 j ne)

@@ -22,3 +22,6 @@ pub mod Traces
 pub mod Lifts
 pub mod Grounds
 pub mod Tells
+pub mod Places
+pub mod Wanted
+pub mod Links

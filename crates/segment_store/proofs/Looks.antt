@@ -2,8 +2,7 @@
 use Rattle.std.proofs.Common.{◌≡◌, ℕ, ◌+◌, ◌*◌, ◌%◌, ◌<◌, ◌≤◌, List, [], ◌∷◌, ◌++◌, sym, ap, subst, ◌∙◌, arith, inl, inr}
 use mathlib.Core.Logic.{dite}
 use native.Mathlib.Decide.{dec_le}
-use Rattle.atomic_table.specs.declared.shared.Seat.{Seat}
-use Rattle.atomic_table.specs.Table.{Me}
+use Rattle.segment_store.specs.Places.{Place, view}
 use Rattle.atomic_table.proofs.Lists.{one_turn}
 use Rattle.std.proofs.lemmas.List.{append_assoc}
 use Rattle.std.proofs.Math.Nat.{zero-mod, mod-lt, mul-pos, mul-mod_left}
@@ -16,29 +15,29 @@ use Rattle.segment_store.specs.Base.{logged, Found, FoundBetween, FoundAll}
 use Rattle.segment_store.proofs.Sums.{one_segment}
 
 -- one more count was found
-pub log_more : (s t u : Seat (Unit {0}) SegmentView) (c n : ℕ) → Becomes s t (logged s.me.0 t.me.0.log)
-    → Becomes t u (notes t.me.0 c n)
-    → Becomes s u (logged s.me.0 u.me.0.log)
-    × (u.me.0.log ≡ record { segment = c; count = n } ∷ t.me.0.log)
-log_more s t u c n a b = let log : u.me.0.log ≡ record { segment = c; count = n }
-    ∷ t.me.0.log = ap (λ (x : Me (Unit {0}) SegmentView). x.0.log) b.2 in (
+pub log_more : (s t u : Place) (c n : ℕ) → Becomes s t (logged (view s) (view t).log)
+    → Becomes t u (notes (view t) c n)
+    → Becomes s u (logged (view s) (view u).log)
+    × ((view u).log ≡ record { segment = c; count = n } ∷ (view t).log)
+log_more s t u c n a b = let log : (view u).log ≡ record { segment = c; count = n }
+    ∷ (view t).log = ap (λ (x : SegmentView). x.log) b.2 in (
       (
         b.0 ∙ a.0,
         b.1 ∙ a.1,
-        b.2 ∙ (ap (λ (x : Me (Unit {0}) SegmentView). (notes x.0 c n, x.1)) a.2
-            ∙ ap (λ (ls : List Look). (logged s.me.0 ls, s.me.1)) (sym log)),
+        b.2 ∙ (ap (λ (x : SegmentView). notes x c n) a.2
+            ∙ ap (λ (ls : List Look). logged (view s) ls) (sym log)),
       ),
       log,
     )
 
-pub log_claims : (s t u : Seat (Unit {0}) SegmentView) (c : ℕ) → Becomes s t (logged s.me.0 t.me.0.log)
-    → Becomes t u (claims t.me.0 c) → Becomes s u (claims (logged s.me.0 u.me.0.log) c)
-log_claims s t u c a b = let log : u.me.0.log ≡ t.me.0.log =
-    ap (λ (x : Me (Unit {0}) SegmentView). x.0.log) b.2 in (
+pub log_claims : (s t u : Place) (c : ℕ) → Becomes s t (logged (view s) (view t).log)
+    → Becomes t u (claims (view t) c) → Becomes s u (claims (logged (view s) (view u).log) c)
+log_claims s t u c a b = let log : (view u).log ≡ (view t).log =
+    ap (λ (x : SegmentView). x.log) b.2 in (
       b.0 ∙ a.0,
       b.1 ∙ a.1,
-      b.2 ∙ (ap (λ (x : Me (Unit {0}) SegmentView). (claims x.0 c, x.1)) a.2
-          ∙ ap (λ (ls : List Look). (claims (logged s.me.0 ls) c, s.me.1)) (sym log)),
+      b.2 ∙ (ap (λ (x : SegmentView). claims x c) a.2
+          ∙ ap (λ (ls : List Look). claims (logged (view s) ls) c) (sym log)),
     )
 
 -- no segment is below the first
@@ -91,23 +90,23 @@ found_all words stride begin old mid new late early = (
 )
 
 -- looks, and then more of them
-pub log_then : (s t u : Seat (Unit {0}) SegmentView) → Becomes s t (logged s.me.0 t.me.0.log)
-    → Becomes t u (logged t.me.0 u.me.0.log) → Becomes s u (logged s.me.0 u.me.0.log)
+pub log_then : (s t u : Place) → Becomes s t (logged (view s) (view t).log)
+    → Becomes t u (logged (view t) (view u).log) → Becomes s u (logged (view s) (view u).log)
 log_then s t u a b = (
   b.0 ∙ a.0,
   b.1 ∙ a.1,
-  b.2 ∙ ap (λ (x : Me (Unit {0}) SegmentView). (logged x.0 u.me.0.log, x.1)) a.2,
+  b.2 ∙ ap (λ (x : SegmentView). logged x (view u).log) a.2,
 )
 
 -- looks, and then more of them and a claim
-pub log_then_claims : (s t u : Seat (Unit {0}) SegmentView) (c : ℕ)
-    → Becomes s t (logged s.me.0 t.me.0.log)
-    → Becomes t u (claims (logged t.me.0 u.me.0.log) c)
-    → Becomes s u (claims (logged s.me.0 u.me.0.log) c)
+pub log_then_claims : (s t u : Place) (c : ℕ)
+    → Becomes s t (logged (view s) (view t).log)
+    → Becomes t u (claims (logged (view t) (view u).log) c)
+    → Becomes s u (claims (logged (view s) (view u).log) c)
 log_then_claims s t u c a b = (
   b.0 ∙ a.0,
   b.1 ∙ a.1,
-  b.2 ∙ ap (λ (x : Me (Unit {0}) SegmentView). (claims (logged x.0 u.me.0.log) c, x.1)) a.2,
+  b.2 ∙ ap (λ (x : SegmentView). claims (logged x (view u).log) c) a.2,
 )
 
 -- the first word of a segment of so many

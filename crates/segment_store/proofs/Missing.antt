@@ -11,13 +11,12 @@ use Rattle.std.specs.Int.{bit_at, bit_not, w64}
 use Rattle.std.proofs.lemmas.Nat.Bits.{bit_at_and, bit_at_not, bit_at-lt}
 use mathlib.Core.Logic.{dite}
 use native.Mathlib.Decide.{ℕ_discrete, dec_le}
-use Rattle.atomic_table.specs.declared.shared.Seat.{Seat}
+use Rattle.segment_store.specs.Places.{Place, view}
 use Rattle.version_map.specs.declared.delta.Delta.{Delta}
 use Rattle.version_map.specs.Deltas.{at, locations, mask_of}
 use Rattle.version_map.specs.Masks.{bit_in}
 use Rattle.version_map.proofs.Bits.{chosen_zero, not_chosen}
 use Rattle.version_map.proofs.Nexts.{bit_in_row}
-use Rattle.segment_store.specs.declared.board.SegmentView.{SegmentView}
 use Rattle.segment_store.specs.Base.{absorbed, IsTaken}
 use Rattle.segment_store.specs.Same.{IsWord}
 use Rattle.segment_store.proofs.Taken.{taken_none, taken_some}
@@ -67,7 +66,7 @@ not_both a b c is none unset set = omega arith
 one_alone : (a b c : ℕ) → c ≡ min a (1 - b) → c ≡ 1 → a < 2 → b < 2 → (a ≡ 1) × (b ≡ 0)
 one_alone a b c is one p q = (omega arith, omega arith)
 
-module _ (words stride masks segment row bits mask : ℕ) (s : Seat (Unit {0}) SegmentView) (d : Delta)
+module _ (words stride masks segment row bits mask : ℕ) (s : Place) (d : Delta)
     (fits : mask < 2 ^ 64) (is : mask ≡ slice_index (mask_of d) row) (low : row < masks)
     (word : IsWord s (segment + (2 + row)) bits) where
   -- the bit of a location of the row in the delta's mask
@@ -78,7 +77,7 @@ module _ (words stride masks segment row bits mask : ℕ) (s : Seat (Unit {0}) S
   row_word l at_row = subst (λ (r : ℕ). IsWord s (segment + (2 + r)) bits) (sym at_row) word
 
   pub skipped : (k : ℕ) → k < 64 → bit_at (bit_and bits (bit_not w64 mask)) k ≡ 0
-      → IsTaken words stride masks segment (64 * row + k) s.me.0.chain (at d (64 * row + k)) (at d (64 * row + k))
+      → IsTaken words stride masks segment (64 * row + k) (view s).chain (at d (64 * row + k)) (at d (64 * row + k))
   skipped k lt none e has seg whole = by (at d (64 * row + k)) refl
     where
       by : (o : Option ℕ) → at d (64 * row + k) ≡ o → o ≡ absorbed masks e o (64 * row + k)
@@ -96,7 +95,7 @@ module _ (words stride masks segment row bits mask : ℕ) (s : Seat (Unit {0}) S
           (missing_bit bits mask k fits lt) none unset (ap (bit_at bits) (sym at_bit) ∙ set))
 
   abbrev pub taken : ℕ → Option ℕ → Option ℕ → Type 0
-  taken j o p = IsTaken words stride masks segment j s.me.0.chain o p
+  taken j o p = IsTaken words stride masks segment j (view s).chain o p
 
   -- past bits that the delta does not lack
   pub row_past : (from to : ℕ) (now : Delta) → Row (64 * row) taken d (64 * row + from) now → from ≤ to → to ≤ 64
@@ -110,9 +109,9 @@ module _ (words stride masks segment row bits mask : ℕ) (s : Seat (Unit {0}) S
       subst (λ (l : ℕ). taken l (at d l) (at d l)) here
       (skipped k (omega (arith, lo, hi, few)) (none k (omega (arith, lo)) (omega (arith, lo, hi)))))
 
-  pub took : (k y : ℕ) (t : Seat (Unit {0}) SegmentView) → k < 64 → bit_at (bit_and bits (bit_not w64 mask)) k ≡ 1
-      → t.me ≡ s.me → IsWord t (segment + (2 + masks + (64 * row + k))) y → 2 + masks + (64 * row + k) < stride
-      → IsTaken words stride masks segment (64 * row + k) s.me.0.chain (at d (64 * row + k)) (Some y)
+  pub took : (k y : ℕ) (t : Place) → k < 64 → bit_at (bit_and bits (bit_not w64 mask)) k ≡ 1
+      → view t ≡ view s → IsWord t (segment + (2 + masks + (64 * row + k))) y → 2 + masks + (64 * row + k) < stride
+      → IsTaken words stride masks segment (64 * row + k) (view s).chain (at d (64 * row + k)) (Some y)
   took k y t lt one same there inside e has seg whole =
       let l : ℕ = 64 * row + k in
       let at_row : l / 64 ≡ row = omega (arith, lt) in

@@ -6,12 +6,11 @@ use Rattle.std.proofs.Common.{◌≡◌, ◌≢◌, ◌/◌, ◌%◌, eq-eqb, ne
 use Rattle.std.proofs.Common.{eqb, cond, List, ◌∷◌, slice_index, length, sym, refl, ap, ◌∙◌, subst}
 use Rattle.std.proofs.Common.{Option, None, Some}
 use Rattle.std.specs.Int.{bit_at}
-use Rattle.atomic_table.specs.declared.shared.Seat.{Seat}
+use Rattle.segment_store.specs.Places.{Place, view}
 use Rattle.version_map.specs.declared.delta.Delta.{Delta}
 use Rattle.version_map.specs.Deltas.{at}
 use Rattle.version_map.specs.Overlay.{word_or, under}
 use Rattle.segment_store.specs.Entry.{Entry}
-use Rattle.segment_store.specs.declared.board.SegmentView.{SegmentView}
 use Rattle.segment_store.specs.Store.{first_of, Has}
 use Rattle.segment_store.specs.Same.{IsWord}
 use Rattle.segment_store.specs.Base.{word_of, bit_of, value, Whole, Sound, absorbed, IsTaken}
@@ -36,8 +35,8 @@ took_head masks root e more old new l took =
     ap (word_or (value masks root more l)) took ∙ over masks root e more (at old l) l
 
 -- a segment with no value for the location
-pub taken_none : (words stride masks segment l x : ℕ) (s : Seat (Unit {0}) SegmentView) (e : Entry)
-    → Has e s.me.0.chain → segment ≡ e.seg → Whole words stride masks e
+pub taken_none : (words stride masks segment l x : ℕ) (s : Place) (e : Entry)
+    → Has e (view s).chain → segment ≡ e.seg → Whole words stride masks e
     → IsWord s (segment + (2 + l / 64)) x → l / 64 < masks → bit_at x (l % 64) ≢ 1
     → None ≡ absorbed masks e None l
 taken_none words stride masks segment l x s e has seg whole word low ne =
@@ -45,8 +44,8 @@ taken_none words stride masks segment l x s e has seg whole word low ne =
     sym (ap (λ (b : Bool). cond b (Some (word_of e (2 + masks + l))) None)
     (ne_eqb (bit_of e l) 1 (λ q. ne (bit ∙ q))))
 
-pub taken_some : (words stride masks segment l x y : ℕ) (s t : Seat (Unit {0}) SegmentView) (e : Entry)
-    → Has e s.me.0.chain → t.me ≡ s.me → segment ≡ e.seg → Whole words stride masks e
+pub taken_some : (words stride masks segment l x y : ℕ) (s t : Place) (e : Entry)
+    → Has e (view s).chain → view t ≡ view s → segment ≡ e.seg → Whole words stride masks e
     → IsWord s (segment + (2 + l / 64)) x → IsWord t (segment + (2 + masks + l)) y → l / 64 < masks
     → 2 + masks + l < stride → bit_at x (l % 64) ≡ 1
     → Some y ≡ absorbed masks e None l

@@ -13,6 +13,7 @@ use Rattle.atomic_table.proofs.Lists.{at_set, set_again, set_else}
 use Rattle.version_map.specs.Masks.{chosen, bit_in}
 use Rattle.version_map.specs.declared.delta.Delta.{Delta}
 use Rattle.version_map.specs.Deltas.{at, mask_of}
+use Rattle.segment_store.specs.Places.{view}
 use Rattle.segment_store.specs.Base.{IsLaid}
 use Rattle.seg_core.specs.Applies.{copies}
 use Rattle.seg_core.specs.Core.{Seg, free, building, live, Core, At, Has}

@@ -9,6 +9,7 @@ use Rattle.std.specs.Prelude.{◌≡◌, ℕ, ◌+◌, ◌-◌, ◌%◌, ◌<◌
 use mathlib.Core.Option.{some}
 use lib.ListN.{get_elem?}
 use Rattle.seg_core.specs.Core.{total}
+use Rattle.segment_store.specs.Places.{view, number}
 use Rattle.segment_store.specs.declared.store.Closed.{Closed}
 use Rattle.segment_store.specs.declared.store.Spent.{Spent}
 use Rattle.segment_store.specs.declared.store.Store.{Store}
@@ -19,7 +20,7 @@ use Rattle.segment_store.specs.Store.{held}
 
 pub record IsEnd (s : Store) (all : Spent) (now : St) : Type 0 where
   pub rule : Rule s.words s.stride s.masks now
-  pub seat : get_elem? now.views all.seat.id ≡ some all.seat.me.0
+  pub seat : get_elem? now.views (number all.seat) ≡ some (view all.seat)
 
 abbrev pub AreLast : Store → Spent → List ℕ → Type 0
 AreLast s all ws = (now : St) × IsEnd s all now × (now.words ≡ ws)

@@ -2,6 +2,7 @@
 pub mod Act
 pub mod Entry
 pub mod First
+pub mod Places
 pub mod Store
 pub mod Base
 pub mod Filling

@@ -1,6 +1,6 @@
 -- The rule of the words and of all views.
 use Rattle.std.specs.Prelude.{◌≡◌, ◌≢◌, ℕ, ◌+◌, ◌-◌, ◌%◌, ◌<◌, ◌≤◌, List, [], ◌∷◌, length}
-use Rattle.std.specs.Prelude.{slice_index, cond, ◌==◌, ◌⊎◌}
+use Rattle.std.specs.Prelude.{slice_index, cond, ◌==◌, ◌⊎◌, Bool, ◌&&◌, nat_lt}
 use mathlib.Core.Option.{Option, none, some}
 use lib.ListN.{get_elem?}
 use Rattle.atomic_table.specs.Table.{State, Me, Step}
@@ -146,6 +146,18 @@ counts v = record v { left = v.left + 1 }
 abbrev pub Has : Entry → List Entry → Type 0
 Has e [] = ⊥
 Has e (x ∷ xs) = (x ≡ e) ⊎ Has e xs
+
+-- the segment c is one of the chain
+abbrev pub InChain : ℕ → List Entry → Type 0
+InChain c es = (e : Entry) × Has e es × (e.seg ≡ c)
+
+-- whether a segment with this count has to be there
+abbrev pub wants : ℕ → ℕ → Bool
+wants c n = nat_lt 0 c && (nat_lt 0 n && nat_lt n building)
+
+-- whether the view builds the segment
+abbrev pub Makes : SegmentView → ℕ → Type 0
+Makes v c = v.build ≡ c
 
 abbrev Sat : Type 0
 Sat = Me (Unit {0}) SegmentView

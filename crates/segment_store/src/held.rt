@@ -1,7 +1,7 @@
 //! A hold with its store.
 ghost use Rattle.std.specs.Prelude.{vec_len};
 ghost use Rattle.segment_store.specs.Names.{IsOf, base, Told};
-ghost use Rattle.segment_store.specs.Group.{group_of};
+ghost use Rattle.segment_store.specs.Places.{seat_name};
 
 use crate::store::{Hold, Spent, Store};
 use std::alloc::{AllocError, Global};
@@ -23,7 +23,7 @@ impl<'a> Snapshot for Held<'a> {
 
     ghost depth = { λ h. h.hold.depth };
 
-    ghost group = { λ h. group_of h.hold.seat.table_id };
+    ghost group = { λ h. seat_name h.hold.seat };
 
     // Took: the last that the hold did to the segments was a collapse. Kept: the last that it found
     // was this count, above 1, at its first segment. Base: its chain has no segment.
@@ -32,7 +32,7 @@ impl<'a> Snapshot for Held<'a> {
     // A fork shares where a segment is free, and else it copies.
     ghost hows = { λ _. Unit {0} };
 
-    ghost spent_group = { λ s. group_of s.seat.table_id };
+    ghost spent_group = { λ s. seat_name s.seat };
 
     fn read(&mut self, location: u32) -> u64 {
         self.store.read(&mut self.hold, location)

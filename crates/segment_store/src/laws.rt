@@ -1,7 +1,7 @@
 //! What the rule says of the pure core, and of chains.
 ghost use Rattle.std.specs.Prelude.{◌≡◌, ℕ};
-ghost use Rattle.atomic_table.specs.Seated.{TableId};
-ghost use Rattle.segment_store.specs.Group.{group_of};
+ghost use Rattle.segment_store.specs.Group.{store_group, IsOneTable};
+ghost use Rattle.segment_store.specs.declared.store.Store.{Store};
 ghost use Rattle.segment_store.specs.Depth.{IsDepthBound, LiveIsHeld};
 ghost use Rattle.segment_store.specs.Rule.{Reaches, BasesTie};
 
@@ -23,7 +23,7 @@ pub fn held_law()
     ensures { LiveIsHeld }
 {}
 
-/// The group of a store names its table: tables of the same group are the same.
+/// The group of a store names its table: stores of the same group have one table.
 pub fn group_law()
-    ensures { (a b : TableId) → group_of a ≡ group_of b → a ≡ b }
+    ensures { (s t : Store) → store_group s ≡ store_group t → IsOneTable s t }
 {}

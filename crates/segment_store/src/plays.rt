@@ -2,18 +2,24 @@
 ghost use Rattle.segment_store.specs.Rule.{Rule};
 ghost use Rattle.segment_store.specs.Store.{idle, looked, saw, found, claimed, wrote, adopted, published};
 ghost use Rattle.segment_store.specs.Store.{shared, released, tallied, hands_left, hands_right};
-ghost use Rattle.segment_store.specs.Store.{parts_left, gathers};
+ghost use Rattle.segment_store.specs.Store.{parts_left, gathers, Makes, wants};
 
 use crate::board::{SegmentView, StoreSize};
-use atomic_table::{Join, Play, Split, TableRule};
+use atomic_table::{Join, Play, Split};
+use sparse_table::PartRule;
 
-/// The rule of a store's table. The first seat has one hold and no chain.
+/// The rule of a store's table. The first seat has one hold and no chain. A segment has to be there
+/// where it has a count, and the seat that builds it may make it.
 pub struct Law;
 
-impl TableRule<(), SegmentView, StoreSize> for Law {
+impl PartRule<SegmentView, StoreSize> for Law {
     ghost holds = { λ size. Rule size.words size.stride size.masks };
 
     ghost first = { λ _. idle 1 0 };
+
+    ghost makes = { Makes };
+
+    ghost needs = { wants };
 }
 
 pub struct Look;

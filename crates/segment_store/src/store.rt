@@ -1,17 +1,14 @@
 //! The store and its holds.
 ghost use Rattle.std.specs.Prelude.{◌≡◌, ◌≢◌, ℕ, ◌+◌, ◌-◌, ◌*◌, ◌/◌, ◌%◌, ◌<◌, ◌≤◌, ◌^◌, []};
-ghost use Rattle.std.specs.Prelude.{vec_len, cond, min, ◌==◌, IfOk, IfErr, None, IfNone};
+ghost use Rattle.std.specs.Prelude.{vec_len, min, ◌==◌, IfOk, IfErr, None, IfNone};
 ghost use Rattle.std.specs.Prelude.{IfSome, slice_index};
 ghost use mathlib.Core.Option.{some};
-ghost use lib.ListN.{get_elem?};
-ghost use Rattle.atomic_table.specs.Table.{State};
 ghost use Rattle.version_map.specs.Masks.{rows};
 ghost use Rattle.version_map.specs.Deltas.{locations, IsEmpty};
 ghost use Rattle.version_map.specs.Overlay.{under, Agree};
-ghost use Rattle.segment_store.specs.Rule.{Rule};
-ghost use Rattle.segment_store.specs.Store.{notes, counts};
+ghost use Rattle.segment_store.specs.Store.{notes};
 ghost use Rattle.segment_store.specs.Base.{value, Rests, longest};
-ghost use Rattle.segment_store.specs.Live.{live_segments};
+ghost use Rattle.segment_store.specs.Places.{room, size_of, view, number, seat_name};
 ghost use Rattle.segment_store.specs.Same.{IsSameSeat};
 ghost use Rattle.segment_store.specs.Own.{IsOwn};
 
@@ -24,13 +21,13 @@ mod walks;
 
 use crate::board::{SegmentView, StoreSize};
 use crate::plays::Law;
-use atomic_table::{Seat, Table};
 pub use closing::Shut;
 use copies::{copy_of, words_under};
+use sparse_table::{Seat, Table};
 use std::alloc::{AllocError, Global};
 use version_map::{Collapsed, Delta, How, mask_rows};
 
-pub type Place = Seat<(), SegmentView>;
+pub type Place = Seat<SegmentView>;
 
 // No chain is longer.
 const LONGEST: u64 = 32;
@@ -38,31 +35,30 @@ const LONGEST: u64 = 32;
 /// Segments of words that many threads share.
 #[derive(Drop)]
 pub struct Store {
-    table: Table<(), SegmentView, StoreSize, Law, Global>,
+    table: Table<SegmentView, StoreSize, Law>,
     initial: Vec<u64>,
     stride: usize,
     masks: usize,
     segments: usize,
     words: usize,
-    ghost sized: { (table.shared.table_id.words ≡ words) × (table.shared.key.words ≡ words)
-        × (table.shared.key.stride ≡ stride) × (table.shared.table_id.slots ≡ 0) },
+    ghost sized: { (table.len ≡ words) × ((size_of table).words ≡ words)
+        × ((size_of table).stride ≡ stride) × (table.width ≡ stride) },
     ghost wide: { (stride ≡ 2 + masks + vec_len initial) × (words % stride ≡ 0) × (stride ≤ words)
         × (words ≤ 2 ^ 40) },
-    ghost masked: { table.shared.key.masks ≡ masks },
+    ghost masked: { (size_of table).masks ≡ masks },
     ghost rowed: { (masks ≡ rows (vec_len initial)) × (words ≡ (segments + 1) * stride) },
     ghost few: { segments < 2 ^ 32 },
 }
 
 /// What one revision reads under its own delta. It is never let go of: `release` takes it.
 pub struct Hold {
-    seat: Seat<(), SegmentView>,
+    seat: Place,
     first: usize,
     depth: u64,
     stride: usize,
     masks: usize,
     own: Option<Vec<u64>>,
-    ghost rests: { Rests seat.table_id.words stride masks first depth seat.me.0 },
-    ghost no_slots: { seat.me.1 ≡ [] },
+    ghost rests: { Rests (room seat) stride masks first depth (view seat) },
     ghost own_words: { IsOwn stride masks first own },
     ghost short: { depth ≤ longest },
 }
@@ -97,9 +93,9 @@ impl Closed {
 pub struct Spent {
     seat: Place,
     holds: u64,
-    ghost some: { 0 < seat.me.0.holds },
-    ghost empty: { (seat.me.0.chain ≡ []) × (seat.me.0.build ≡ 0) × (seat.me.1 ≡ [])
-        × (holds ≡ seat.me.0.holds % 2 ^ 64) × (seat.me.0.left ≡ 0) },
+    ghost some: { 0 < (view seat).holds },
+    ghost empty: { ((view seat).chain ≡ []) × ((view seat).build ≡ 0)
+        × (holds ≡ (view seat).holds % 2 ^ 64) × ((view seat).left ≡ 0) },
 }
 
 impl Store {
@@ -119,7 +115,7 @@ impl Store {
         initial: Vec<u64>,
     ) -> Result<(Store, Hold), AllocError>
         requires { vec_len initial ≤ 4096 }
-        ensures hold { IfOk result (λ r. IsOf r.0 r.1 × (r.1.seat.me.0.chain ≡ [])
+        ensures hold { IfOk result (λ r. IsOf r.0 r.1 × ((view r.1.seat).chain ≡ [])
             × (r.1.own ≡ None) × (r.0.initial ≡ initial)
             × (r.0.segments ≡ min segments (2 ^ 26 / r.0.stride))) }
         ensures free { IfOk result (λ r. AreFreeAtFirst r.0 r.1) }
@@ -128,14 +124,12 @@ impl Store {
         let stride = 2 + masks + initial.len();
         let segments = opened(segments, stride);
         let words = (segments + 1) * stride;
-        let mut first = vec![in alloc; 0; words]?;
-        first[0] = 1;
         let size = StoreSize {
             words: words as u64,
             stride: stride as u64,
             masks: masks as u64,
         };
-        let (table, seat) = Table::of_words(alloc, &first, &size)?;
+        let (table, seat) = Table::open(alloc, words, stride, 1, size)?;
         let store = Store {
             table,
             initial,
@@ -161,9 +155,9 @@ impl Store {
         requires short { hold.old.depth < longest }
         ensures own { IsOf self.now hold.new × (locations delta.new ≡ locations delta.old) }
         ensures none { IfNone result (IsSameHold hold.old hold.new × (delta.new ≡ delta.old)
-            × FoundAllIn self.now hold.old.seat.me.0.log hold.new.seat.me.0.log) }
+            × FoundAllIn self.now (view hold.old.seat).log (view hold.new.seat).log) }
         ensures child { IfSome result (λ h. IsOf self.now h
-            × (h.seat.me.0.chain ≡ hold.new.seat.me.0.chain) × (h.own ≡ None)
+            × ((view h.seat).chain ≡ (view hold.new.seat).chain) × (h.own ≡ None)
             × (hold.new.own ≡ None) × (h.first ≡ hold.new.first) × (0 < h.first)) }
         ensures base { IfSome result (λ h. (l : ℕ) → l < vec_len self.now.initial
             → base self.now h l ≡ under delta.old (base self.now hold.old) l) }
@@ -189,7 +183,7 @@ impl Store {
         requires own { IsOf self.now hold.old }
         requires words { vec_len words ≡ vec_len self.now.initial }
         ensures own { IsOf self.now hold.new
-            × (hold.new.seat.me.0.log ≡ hold.old.seat.me.0.log) }
+            × ((view hold.new.seat).log ≡ (view hold.old.seat).log) }
         ensures base { (l : ℕ) → base self.now hold.new l ≡ slice_index words.items l }
         ensures bare { hold.new.depth ≡ 0 }
     {
@@ -203,7 +197,7 @@ impl Store {
     fn drop_chain(&self, hold: &mut Hold)
         requires own { IsOf self.now hold.old × (hold.old.own ≡ None) }
         ensures own { IsOf self.now hold.new
-            × (hold.new.seat.me.0.log ≡ hold.old.seat.me.0.log) }
+            × ((view hold.new.seat).log ≡ (view hold.old.seat).log) }
         ensures base { (l : ℕ) → base self.now hold.new l ≡ slice_index self.now.initial.items l }
         ensures bare { hold.new.depth ≡ 0 }
     {
@@ -218,7 +212,7 @@ impl Store {
     fn copy(&self, alloc: Global, hold: &mut Hold, delta: &Delta) -> Result<Vec<u64>, AllocError>
         requires own { IsOf self.now hold.old × IsDeltaOf self.now delta.now }
         ensures own { IsOf self.now hold.new × IsSameBase self.now hold.old hold.new
-            × (hold.new.seat.me.0.log ≡ hold.old.seat.me.0.log) }
+            × ((view hold.new.seat).log ≡ (view hold.old.seat).log) }
         ensures failed { IfErr result (λ _. IsSameHold hold.old hold.new) }
         ensures words { IfOk result (λ v. (vec_len v ≡ vec_len self.now.initial)
             × Agree (vec_len self.now.initial) (slice_index v.items)
@@ -244,7 +238,7 @@ impl Store {
     fn fork_own(&self, hold: &mut Hold, words: Vec<u64>) -> Hold
         requires own { IsOf self.now hold.old × (vec_len words ≡ vec_len self.now.initial) }
         ensures own { IsOf self.now hold.new × IsSameHold hold.old hold.new
-            × (hold.new.seat.me.0.log ≡ hold.old.seat.me.0.log) }
+            × ((view hold.new.seat).log ≡ (view hold.old.seat).log) }
         ensures child { IsOf self.now result × (result.own ≢ None) }
         ensures base { (l : ℕ) → base self.now result l ≡ slice_index words.items l }
     {
@@ -264,9 +258,9 @@ impl Store {
     fn fork_share(&self, hold: &mut Hold) -> Option<Hold>
         requires own { IsOf self.now hold.old }
         ensures own { IsOf self.now hold.new × IsSameHold hold.old hold.new }
-        ensures none { IfNone result (hold.new.seat.me ≡ hold.old.seat.me) }
+        ensures none { IfNone result (view hold.new.seat ≡ view hold.old.seat) }
         ensures child { IfSome result (λ h. IsOf self.now h
-            × (h.seat.me.0.chain ≡ hold.old.seat.me.0.chain) × (h.own ≡ None)
+            × ((view h.seat).chain ≡ (view hold.old.seat).chain) × (h.own ≡ None)
             × (hold.old.own ≡ None) × (h.first ≡ hold.new.first) × (0 < h.first)) }
     {
         if hold.first == 0 {
@@ -304,10 +298,10 @@ impl Store {
             l }
         ensures shared { IfOk result (λ r. r.1 ≡ Shared → IsEmpty delta.new
             × (r.0.first ≡ hold.new.first) × (0 < r.0.first)
-            × (r.0.seat.me.0.chain ≡ hold.new.seat.me.0.chain)) }
+            × ((view r.0.seat).chain ≡ (view hold.new.seat).chain)) }
         ensures copied { IfOk result (λ r. r.1 ≡ Copied → (delta.new ≡ delta.old)
             × IsSameBase self.now hold.old hold.new × (r.0.own ≢ None)
-            × FoundAllIn self.now hold.old.seat.me.0.log hold.new.seat.me.0.log) }
+            × FoundAllIn self.now (view hold.old.seat).log (view hold.new.seat).log) }
     {
         let base = self.copy_chain(
             alloc,
@@ -355,10 +349,10 @@ impl Store {
             l }
         ensures shared { IfOk result (λ r. r.1 ≡ Shared → IsEmpty delta.new
             × (r.0.first ≡ hold.new.first) × (0 < r.0.first)
-            × (r.0.seat.me.0.chain ≡ hold.new.seat.me.0.chain)) }
+            × ((view r.0.seat).chain ≡ (view hold.new.seat).chain)) }
         ensures copied { IfOk result (λ r. r.1 ≡ Copied → (delta.new ≡ delta.old)
             × IsSameBase self.now hold.old hold.new × (r.0.own ≢ None)
-            × FoundAllIn self.now hold.old.seat.me.0.log hold.new.seat.me.0.log) }
+            × FoundAllIn self.now (view hold.old.seat).log (view hold.new.seat).log) }
     {
         if delta.is_empty() {
             if let Some(child) = self.fork_share(hold) {
@@ -388,7 +382,7 @@ impl Store {
         ensures took { result ≡ collapsed.Took → (hold.new.depth + 1 ≡ hold.old.depth)
             × TookFirst self.now hold.old hold.new into.old into.new }
         ensures kept { (n : ℕ) → result ≡ collapsed.Kept n → (1 < n)
-            × (hold.new.seat.me.0 ≡ notes hold.old.seat.me.0 hold.old.first n)
+            × (view hold.new.seat ≡ notes (view hold.old.seat) hold.old.first n)
             × (hold.new.first ≡ hold.old.first) × (hold.new.depth ≡ hold.old.depth)
             × (into.new ≡ into.old) }
         ensures exact { hold.old.depth ≡ 0 → result ≡ collapsed.Base }
@@ -411,7 +405,7 @@ impl Store {
     /// Joins two spent holds.
     pub fn gather(&self, into: &mut Spent, other: Spent)
         requires own { IsSeatOf self.now into.old.seat × IsSeatOf self.now other.seat }
-        ensures { (into.new.seat.table_id ≡ into.old.seat.table_id)
+        ensures { (seat_name into.new.seat ≡ seat_name into.old.seat)
             × (gathered into.new ≡ gathered into.old + gathered other) }
     {
         let Spent { seat, holds } = other;
@@ -433,7 +427,7 @@ impl Store {
     /// Gives back the hold's reference. What is left is the hold's own seat.
     pub fn release(&self, hold: Hold) -> Spent
         requires own { IsOf self.now hold }
-        ensures own { IsSeatOf self.now result.seat × (result.seat.id ≡ hold.seat.id) }
+        ensures own { IsSeatOf self.now result.seat × (number result.seat ≡ number hold.seat) }
         ensures spent { gathered result ≡ 1 }
     {
         let Hold {

@@ -1,13 +1,11 @@
 //! The end of a store.
 ghost use Rattle.std.specs.Prelude.{◌≡◌, ◌+◌, ◌-◌, ◌*◌, ◌%◌, ◌<◌, ◌≤◌, ◌^◌, cond, ◌==◌};
 ghost use Rattle.std.specs.Prelude.{slice_index};
-ghost use Rattle.std.specs.Mem.Slots.{slots_items, slots_len, IsFull};
+ghost use Rattle.sparse_table.specs.Last.{words_of};
 ghost use Rattle.segment_store.specs.Live.{live_segments};
 
 use crate::store::{Closed, Place, Spent, Store};
-use std::alloc::Global;
-
-type Ended = atomic_table::Closed<(), Global>;
+use sparse_table::Closed as Ended;
 
 /// What is left of a store that was ended: its words, which no thread shares any more, and how many
 /// holds were gathered, modulo 2^64.
@@ -17,8 +15,7 @@ pub struct Shut {
     stride: usize,
     segments: usize,
     witness: Place,
-    ghost full: { IsFull table.words × (slots_len table.words ≡ (segments + 1) * stride)
-        × (slots_len table.slots ≡ 0) },
+    ghost laid: { (table.len ≡ (segments + 1) * stride) × (table.width ≡ stride) },
     ghost wide: { (0 < stride) × (segments < 2 ^ 32) × ((segments + 1) * stride ≤ 2 ^ 40) },
 }
 
@@ -30,7 +27,7 @@ impl Store {
     /// of `all` has its view.
     pub fn shut(self, mut all: Spent) -> Shut
         requires own { IsSeatOf self all.seat }
-        ensures words { AreLast self all (slots_items result.table.words) }
+        ensures words { AreLast self all (words_of result.table) }
         ensures sizes { (result.stride ≡ self.stride) × (result.segments ≡ self.segments) }
         ensures holds { result.holds ≡ gathered all % 2 ^ 64 }
         ensures group { IsSeatOf self result.witness }
@@ -73,35 +70,36 @@ impl Shut {
     /// how much more the word has that counts the holds than were gathered, modulo 2^64.
     pub fn count(self) -> Closed
         ensures live { result.live
-            ≡ live_segments self.stride (slots_items self.table.words) self.segments }
+            ≡ live_segments self.stride (words_of self.table) self.segments }
         ensures out { result.out
-            ≡ (slice_index (slots_items self.table.words) 0 + 2 ^ 64 - self.holds) % 2 ^ 64 }
+            ≡ (slice_index (words_of self.table) 0 + 2 ^ 64 - self.holds) % 2 ^ 64 }
         ensures witness { result.witness ≡ self.witness }
     {
         let Shut {
-            table,
+            mut table,
             holds,
             stride,
             segments,
             witness,
         } = self;
-        let out = table.word(0).wrapping_sub(holds);
-        let live = live_in(&table, stride, segments);
+        let out = table.head(0).wrapping_sub(holds);
+        let live = live_in(&mut table, stride, segments);
         table.free();
         Closed { live, out, witness }
     }
 }
 
 // How many of so many segments have a count that is not 0.
-fn live_in(table: &Ended, stride: usize, segments: usize) -> u32
-    requires full { IsFull table.now.words × (slots_len table.now.words ≡ (segments + 1) * stride) }
+fn live_in(table: &mut Ended, stride: usize, segments: usize) -> u32
+    requires laid { (table.old.len ≡ (segments + 1) * stride) × (table.old.width ≡ stride) }
     requires wide { (0 < stride) × (segments < 2 ^ 32) × ((segments + 1) * stride ≤ 2 ^ 40) }
-    ensures { result ≡ live_segments stride (slots_items table.now.words) segments }
+    ensures same { table.new ≡ table.old }
+    ensures live { result ≡ live_segments stride (words_of table.old) segments }
 {
     let mut live = 0;
     let mut k = 0;
     while k < segments {
-        live += busy(table.word((k + 1) * stride));
+        live += busy(table.head((k + 1) * stride));
         k += 1;
     }
     live

@@ -2,6 +2,7 @@
 ghost use Rattle.std.specs.Prelude.{◌≡◌, ℕ, ◌<◌, length, vec_len, slice_index, IfOk, IfSome};
 ghost use Rattle.version_map.specs.Deltas.{at, locations};
 ghost use Rattle.version_map.specs.Overlay.{under, Agree};
+ghost use Rattle.segment_store.specs.Places.{view};
 ghost use Rattle.segment_store.specs.Base.{value};
 ghost use Rattle.segment_store.specs.Same.{IsSameSeat};
 ghost use Rattle.segment_store.specs.Own.{root_in};
@@ -17,18 +18,18 @@ impl Store {
     // the first one's value counts.
     pub(super) fn absorb_chain(&self, seat: &mut Place, first: usize, depth: u64, into: &mut Delta)
         requires own { IsSeatOf self.now seat.old × IsDeltaOf self.now into.old }
-        requires rests { RestsIn self.now first depth seat.old.me.0 }
+        requires rests { RestsIn self.now first depth (view seat.old) }
         ensures same { IsSameSeat seat.old seat.new }
         ensures size { locations into.new ≡ locations into.old }
         ensures values { Agree (vec_len self.now.initial)
             (under into.new (slice_index self.now.initial.items))
-            (under into.old (value self.now.masks self.now.initial.items seat.old.me.0.chain)) }
+            (under into.old (value self.now.masks self.now.initial.items (view seat.old).chain)) }
     {
         let mut at = first;
         let mut left = depth;
         while left > 0 {
             self.absorb(seat, at, into);
-            at = self.word(seat, at + 1) as usize;
+            at = self.word(seat, at, at + 1) as usize;
             left -= 1;
         }
     }
@@ -43,11 +44,11 @@ impl Store {
         locations: u32,
     ) -> Result<Vec<u64>, AllocError>
         requires own { IsSeatOf self.now seat.old × (locations ≡ vec_len self.now.initial) }
-        requires rests { RestsIn self.now first depth seat.old.me.0 }
+        requires rests { RestsIn self.now first depth (view seat.old) }
         ensures same { IsSameSeat seat.old seat.new }
         ensures words { IfOk result (λ v. (vec_len v ≡ vec_len self.now.initial)
             × Agree (vec_len self.now.initial) (slice_index v.items)
-            (value self.now.masks self.now.initial.items seat.old.me.0.chain)) }
+            (value self.now.masks self.now.initial.items (view seat.old).chain)) }
     {
         let mut all = Delta::new(alloc, locations)?;
         self.absorb_chain(seat, first, depth, &mut all);

@@ -2,6 +2,7 @@
 ghost use Rattle.std.specs.Prelude.{◌≡◌, ℕ, ◌+◌, ◌*◌, ◌<◌, ◌≤◌};
 ghost use Rattle.std.specs.Prelude.{MatchBool, length, slice_index};
 ghost use Rattle.version_map.specs.Deltas.{at, locations};
+ghost use Rattle.segment_store.specs.Places.{view};
 ghost use Rattle.segment_store.specs.Filling.{IsWhole};
 ghost use Rattle.segment_store.specs.Same.{IsSameSeat, IsWord};
 
@@ -9,18 +10,19 @@ use crate::store::{Place, Store};
 use version_map::{Delta, next_bit};
 
 impl Store {
-    ghost use Rattle.segment_store.specs.Names.{IsSeatOf, IsDeltaOf, IsTakenIn};
+    ghost use Rattle.segment_store.specs.Names.{IsSeatOf, IsDeltaOf, IsTakenIn, IsLinkIn};
 
-    // Reads 64 words from this one on.
-    fn read_row(&self, seat: &mut Place, from: usize, words: &mut [u64])
-        requires own { IsSeatOf self.now seat.old × (from + 64 ≤ self.now.words) }
+    // Reads 64 words of a segment from this one on.
+    fn read_row(&self, seat: &mut Place, segment: usize, from: usize, words: &mut [u64])
+        requires own { IsSeatOf self.now seat.old × IsLinkIn self.now seat.old segment }
+        requires inside { (segment < from) × (from + 64 ≤ segment + self.now.stride) }
         requires many { length words.old ≡ 64 }
         ensures same { IsSameSeat seat.old seat.new }
         ensures many { length words.new ≡ 64 }
         ensures words { (k : ℕ) → k < 64 → IsWord seat.old (from + k) (slice_index words.new k) }
     {
         for k in 0..64usize {
-            words[k] = self.word(seat, from + k);
+            words[k] = self.word(seat, segment, from + k);
         }
     }
 
@@ -36,6 +38,7 @@ impl Store {
     fn absorb_whole(&self, seat: &mut Place, segment: usize, row: usize, into: &mut Delta)
         requires own { IsSeatOf self.now seat.old × IsDeltaOf self.now into.old
             × (segment + self.now.stride ≤ self.now.words) }
+        requires link { IsLinkIn self.now seat.old segment }
         requires all { (bits : ℕ) × IsWord seat.old (segment + (2 + row)) bits
             × IsWhole bits row into.old }
         ensures same { IsSameSeat seat.old seat.new }
@@ -43,10 +46,11 @@ impl Store {
         ensures before { (l : ℕ) → l < 64 * row → at into.new l ≡ at into.old l }
         ensures after { (l : ℕ) → 64 * row + 64 ≤ l → at into.new l ≡ at into.old l }
         ensures values { (l : ℕ) → 64 * row ≤ l → l < 64 * row + 64
-            → IsTakenIn self.now segment l seat.old.me.0.chain (at into.old l) (at into.new l) }
+            → IsTakenIn self.now segment l (view seat.old).chain (at into.old l) (at into.new l) }
     {
         let mut words = [0u64; 64];
-        self.read_row(seat, segment + (2 + self.masks + 64 * row), &mut words);
+        let from = segment + (2 + self.masks + 64 * row);
+        self.read_row(seat, segment, from, &mut words);
         into.set_row(row, &words);
     }
 
@@ -62,6 +66,7 @@ impl Store {
     )
         requires own { IsSeatOf self.now seat.old × IsDeltaOf self.now into.old
             × (segment + self.now.stride ≤ self.now.words) }
+        requires link { IsLinkIn self.now seat.old segment }
         requires inside { row < self.now.masks }
         requires bits { IsWord seat.old (segment + (2 + row)) bits }
         ensures same { IsSameSeat seat.old seat.new }
@@ -69,7 +74,7 @@ impl Store {
         ensures before { (l : ℕ) → l < 64 * row → at into.new l ≡ at into.old l }
         ensures after { (l : ℕ) → 64 * row + 64 ≤ l → at into.new l ≡ at into.old l }
         ensures values { (l : ℕ) → 64 * row ≤ l → l < 64 * row + 64 → l < locations into.old
-            → IsTakenIn self.now segment l seat.old.me.0.chain (at into.old l) (at into.new l) }
+            → IsTakenIn self.now segment l (view seat.old).chain (at into.old l) (at into.new l) }
     {
         let first = 64 * row;
         let missing = bits & !into.mask_row(row);
@@ -79,7 +84,7 @@ impl Store {
             if l >= self.initial.len() {
                 return;
             }
-            let word = self.word(seat, segment + (2 + self.masks + l));
+            let word = self.word(seat, segment, segment + (2 + self.masks + l));
             into.set(l as u32, word);
             from = k + 1;
         }
@@ -89,15 +94,16 @@ impl Store {
     pub(super) fn absorb_row(&self, seat: &mut Place, segment: usize, row: usize, into: &mut Delta)
         requires own { IsSeatOf self.now seat.old × IsDeltaOf self.now into.old
             × (segment + self.now.stride ≤ self.now.words) }
+        requires link { IsLinkIn self.now seat.old segment }
         requires inside { row < self.now.masks }
         ensures same { IsSameSeat seat.old seat.new }
         ensures size { locations into.new ≡ locations into.old }
         ensures before { (l : ℕ) → l < 64 * row → at into.new l ≡ at into.old l }
         ensures after { (l : ℕ) → 64 * row + 64 ≤ l → at into.new l ≡ at into.old l }
         ensures values { (l : ℕ) → 64 * row ≤ l → l < 64 * row + 64 → l < locations into.old
-            → IsTakenIn self.now segment l seat.old.me.0.chain (at into.old l) (at into.new l) }
+            → IsTakenIn self.now segment l (view seat.old).chain (at into.old l) (at into.new l) }
     {
-        let bits = self.word(seat, segment + (2 + row));
+        let bits = self.word(seat, segment, segment + (2 + row));
         if bits == 0 {
             return;
         }
@@ -112,10 +118,11 @@ impl Store {
     pub(super) fn absorb(&self, seat: &mut Place, segment: usize, into: &mut Delta)
         requires own { IsSeatOf self.now seat.old × IsDeltaOf self.now into.old
             × (segment + self.now.stride ≤ self.now.words) }
+        requires link { IsLinkIn self.now seat.old segment }
         ensures same { IsSameSeat seat.old seat.new }
         ensures size { locations into.new ≡ locations into.old }
         ensures values { (l : ℕ) → l < locations into.old
-            → IsTakenIn self.now segment l seat.old.me.0.chain (at into.old l) (at into.new l) }
+            → IsTakenIn self.now segment l (view seat.old).chain (at into.old l) (at into.new l) }
     {
         for row in 0..self.masks {
             self.absorb_row(seat, segment, row, into);

@@ -5,7 +5,8 @@ ghost use mathlib.Core.Option.{some};
 ghost use Rattle.version_map.specs.Deltas.{at, locations};
 ghost use Rattle.segment_store.specs.Store.{first_of, idle, notes, claims};
 ghost use Rattle.segment_store.specs.Base.{value, logged};
-ghost use Rattle.segment_store.specs.Same.{IsSameSeat, Becomes, IsWord};
+ghost use Rattle.segment_store.specs.Places.{view, number, seat_name};
+ghost use Rattle.segment_store.specs.Same.{IsSameSeat, Becomes, IsWord, IsAttached};
 ghost use Rattle.segment_store.specs.Own.{root_in, IsOwn, IsComplete};
 
 use crate::store::{Place, Store};
@@ -23,14 +24,15 @@ impl Store {
     // where every count between them was found not 0.
     fn claim_between(&self, seat: &mut Place, from: usize, to: usize) -> usize
         requires own { IsSeatOf self.now seat.old }
-        requires free { (seat.old.me.0.build ≡ 0) × (0 < seat.old.me.0.holds) }
+        requires free { ((view seat.old).build ≡ 0) × (0 < (view seat.old).holds) }
         requires between { (0 < from) × (from % self.now.stride ≡ 0) × (to ≤ self.now.words) }
         ensures none { result ≡ 0
-            → Becomes seat.old seat.new (logged seat.old.me.0 seat.new.me.0.log)
-            × FoundBetweenIn self.now from to seat.old.me.0.log seat.new.me.0.log }
+            → Becomes seat.old seat.new (logged (view seat.old) (view seat.new).log)
+            × FoundBetweenIn self.now from to (view seat.old).log (view seat.new).log }
         ensures some { 0 < result
-            → Becomes seat.old seat.new (claims (logged seat.old.me.0 seat.new.me.0.log) result)
+            → Becomes seat.old seat.new (claims (logged (view seat.old) (view seat.new).log) result)
             × IsSegmentIn self.now result × (result + self.now.stride ≤ self.now.words) }
+        ensures there { 0 < result → IsAttached seat.new result }
     {
         let mut segment = from;
         while segment < to {
@@ -56,13 +58,14 @@ impl Store {
     // A free segment, which is now this seat's to build, or 0 where every count was found not 0.
     pub(super) fn claim_any(&self, seat: &mut Place, first: usize) -> usize
         requires own { IsSeatOf self.now seat.old }
-        requires free { (seat.old.me.0.build ≡ 0) × (0 < seat.old.me.0.holds) }
+        requires free { ((view seat.old).build ≡ 0) × (0 < (view seat.old).holds) }
         ensures none { result ≡ 0
-            → Becomes seat.old seat.new (logged seat.old.me.0 seat.new.me.0.log)
-            × FoundAllIn self.now seat.old.me.0.log seat.new.me.0.log }
+            → Becomes seat.old seat.new (logged (view seat.old) (view seat.new).log)
+            × FoundAllIn self.now (view seat.old).log (view seat.new).log }
         ensures some { 0 < result
-            → Becomes seat.old seat.new (claims (logged seat.old.me.0 seat.new.me.0.log) result)
+            → Becomes seat.old seat.new (claims (logged (view seat.old) (view seat.new).log) result)
             × IsSegmentIn self.now result × (result + self.now.stride ≤ self.now.words) }
+        ensures there { 0 < result → IsAttached seat.new result }
     {
         if self.segments == 0 {
             return 0;
@@ -103,19 +106,18 @@ impl Store {
         own: &Option<Vec<u64>>,
     ) -> Option<(usize, Place)>
         requires own { IsSeatOf self.now seat.old × IsDeltaOf self.now delta.old }
-        requires rests { RestsIn self.now first depth seat.old.me.0 }
+        requires rests { RestsIn self.now first depth (view seat.old) }
         requires own_words { IfSome own.now (λ ws. vec_len ws ≡ vec_len self.now.initial) }
-        ensures same { (seat.new.table_id ≡ seat.old.table_id) × (seat.new.me.1 ≡ seat.old.me.1)
+        ensures same { (seat_name seat.new ≡ seat_name seat.old)
             × (locations delta.new ≡ locations delta.old) }
         ensures none { IfNone result
-            (Becomes seat.old seat.new (logged seat.old.me.0 seat.new.me.0.log)
-            × FoundAllIn self.now seat.old.me.0.log seat.new.me.0.log × (delta.new ≡ delta.old)) }
+            (Becomes seat.old seat.new (logged (view seat.old) (view seat.new).log)
+            × FoundAllIn self.now (view seat.old).log (view seat.new).log × (delta.new ≡ delta.old)) }
         ensures complete { IfSome result (λ p. IsComplete own.now delta.old delta.new) }
         ensures shallow { IfSome result (λ p. depth ≤ 2 ^ 40) }
-        ensures some { IfSome result (λ p. (0 < p.0) × (p.1.table_id ≡ seat.old.table_id)
-            × (p.1.me.1 ≡ [])
+        ensures some { IfSome result (λ p. (0 < p.0) × (seat_name p.1 ≡ seat_name seat.old)
             × ((root : List ℕ)
-            → ForkedIn self.now root p.0 depth delta.new seat.old.me.0 seat.new.me.0 p.1.me.0)) }
+            → ForkedIn self.now root p.0 depth delta.new (view seat.old) (view seat.new) (view p.1))) }
     {
         let segment = self.claim_any(seat, first);
         if segment == 0 {
@@ -132,21 +134,21 @@ impl Store {
     // The word of the chain's base, from its first segment on.
     pub(super) fn walk(&self, seat: &mut Place, first: usize, depth: u64, location: usize) -> u64
         requires own { IsSeatOf self.now seat.old }
-        requires chain { (first ≡ first_of seat.old.me.0.chain)
-            × (depth ≡ length seat.old.me.0.chain) × SoundIn self.now seat.old.me.0.chain }
+        requires chain { (first ≡ first_of (view seat.old).chain)
+            × (depth ≡ length (view seat.old).chain) × SoundIn self.now (view seat.old).chain }
         requires inside { location < vec_len self.now.initial }
-        ensures value { result ≡ value self.now.masks self.now.initial.items seat.old.me.0.chain
+        ensures value { result ≡ value self.now.masks self.now.initial.items (view seat.old).chain
             location }
         ensures same { IsSameSeat seat.old seat.new }
     {
         let mut at = first;
         let mut left = depth;
         while left > 0 {
-            let mask = self.word(seat, at + (2 + location / 64));
+            let mask = self.word(seat, at, at + (2 + location / 64));
             if mask >> (location % 64) & 1 == 1 {
-                return self.word(seat, at + (2 + self.masks + location));
+                return self.word(seat, at, at + (2 + self.masks + location));
             }
-            at = self.word(seat, at + 1) as usize;
+            at = self.word(seat, at, at + 1) as usize;
             left -= 1;
         }
         self.initial[location]
@@ -162,11 +164,11 @@ impl Store {
         location: usize,
     ) -> u64
         requires own { IsSeatOf self.now seat.old }
-        requires rests { RestsIn self.now first depth seat.old.me.0
+        requires rests { RestsIn self.now first depth (view seat.old)
             × IsOwn self.now.stride self.now.masks first own.now }
         requires inside { location < vec_len self.now.initial }
         ensures value { result ≡ value self.now.masks (root_in self.now.initial own.now)
-            seat.old.me.0.chain location }
+            (view seat.old).chain location }
         ensures same { IsSameSeat seat.old seat.new }
     {
         match own {
@@ -185,33 +187,33 @@ impl Store {
         into: &mut Delta,
     ) -> Result<usize, u64>
         requires own { IsSeatOf self.now seat.old × IsDeltaOf self.now into.old }
-        requires rests { RestsIn self.now first depth seat.old.me.0 × (0 < first) }
-        ensures same { (seat.new.table_id ≡ seat.old.table_id) × (seat.new.me.1 ≡ seat.old.me.1)
+        requires rests { RestsIn self.now first depth (view seat.old) × (0 < first) }
+        ensures same { (seat_name seat.new ≡ seat_name seat.old)
             × (locations into.new ≡ locations into.old) }
         ensures took { IfOk result (λ up. (root : List ℕ)
-            → PoppedIn self.now root up depth into.old into.new seat.old.me.0 seat.new.me.0) }
+            → PoppedIn self.now root up depth into.old into.new (view seat.old) (view seat.new)) }
         ensures kept { IfErr result (λ n. (1 < n)
-            × Becomes seat.old seat.new (notes seat.old.me.0 first n) × (into.new ≡ into.old)) }
+            × Becomes seat.old seat.new (notes (view seat.old) first n) × (into.new ≡ into.old)) }
     {
         let count = self.count(seat, first);
         if count != 1 {
             return Err(count);
         }
         self.absorb(seat, first, into);
-        let up = self.word(seat, first + 1) as usize;
+        let up = self.word(seat, first, first + 1) as usize;
         self.release_one(seat, first);
         Ok(up)
     }
 
     pub(super) fn share_first(&self, seat: &mut Place, first: usize, depth: u64) -> Option<Place>
         requires own { IsSeatOf self.now seat.old }
-        requires rests { RestsIn self.now first depth seat.old.me.0 × (0 < first) }
-        ensures same { (seat.new.table_id ≡ seat.old.table_id) × (seat.new.me.1 ≡ seat.old.me.1) }
+        requires rests { RestsIn self.now first depth (view seat.old) × (0 < first) }
+        ensures same { (seat_name seat.new ≡ seat_name seat.old) }
         ensures none { IfNone result (IsSameSeat seat.old seat.new) }
-        ensures some { IfSome result (λ p. (p.table_id ≡ seat.old.table_id) × (p.me.1 ≡ [])
-            × IsSharedIn self.now first depth seat.old.me.0 seat.new.me.0 p.me.0) }
+        ensures some { IfSome result (λ p. (seat_name p ≡ seat_name seat.old)
+            × IsSharedIn self.now first depth (view seat.old) (view seat.new) (view p)) }
     {
-        let count = self.peek(first);
+        let count = self.peek(seat, first);
         if count == 0 || count >= 1 << 32 || !self.share(seat, first, count) {
             return None;
         }
@@ -222,21 +224,21 @@ impl Store {
     // Gives back the seat's reference, and the segments whose last reference that was.
     pub(super) fn release_all(&self, seat: &mut Place, first: usize, depth: u64)
         requires own { IsSeatOf self.now seat.old }
-        requires rests { (first ≡ first_of seat.old.me.0.chain)
-            × (depth ≡ length seat.old.me.0.chain) × SoundIn self.now seat.old.me.0.chain
-            × (seat.old.me.0.extra ≡ 0) }
-        ensures empty { (seat.new.me.0.chain ≡ []) × (seat.new.me.0.build ≡ seat.old.me.0.build)
-            × (seat.new.me.0.holds ≡ seat.old.me.0.holds)
-            × (seat.new.me.0.left ≡ seat.old.me.0.left) × (seat.new.me.1 ≡ seat.old.me.1)
-            × (seat.new.table_id ≡ seat.old.table_id) × (seat.new.id ≡ seat.old.id) }
-        ensures log { seat.new.me.0.log ≡ seat.old.me.0.log }
-        ensures rests { RestsIn self.now first depth seat.old.me.0
-            → RestsIn self.now 0 0 seat.new.me.0 }
+        requires rests { (first ≡ first_of (view seat.old).chain)
+            × (depth ≡ length (view seat.old).chain) × SoundIn self.now (view seat.old).chain
+            × ((view seat.old).extra ≡ 0) }
+        ensures empty { ((view seat.new).chain ≡ []) × ((view seat.new).build ≡ (view seat.old).build)
+            × ((view seat.new).holds ≡ (view seat.old).holds)
+            × ((view seat.new).left ≡ (view seat.old).left)
+            × (seat_name seat.new ≡ seat_name seat.old) × (number seat.new ≡ number seat.old) }
+        ensures log { (view seat.new).log ≡ (view seat.old).log }
+        ensures rests { RestsIn self.now first depth (view seat.old)
+            → RestsIn self.now 0 0 (view seat.new) }
     {
         let mut at = first;
         let mut below = depth;
         while below > 0 {
-            let up = self.word(seat, at + 1) as usize;
+            let up = self.word(seat, at, at + 1) as usize;
             if !self.release_one(seat, at) {
                 return;
             }
@@ -248,12 +250,12 @@ impl Store {
     // A seat with one hold and no chain: of a child with words of its own, or of a purse.
     pub(super) fn split_off(&self, seat: &mut Place, first: usize, depth: u64) -> Place
         requires own { IsSeatOf self.now seat.old }
-        requires rests { RestsIn self.now first depth seat.old.me.0 }
-        ensures same { (seat.new.table_id ≡ seat.old.table_id) × (seat.new.me.1 ≡ seat.old.me.1)
-            × (seat.new.me.0.chain ≡ seat.old.me.0.chain)
-            × (seat.new.me.0.log ≡ seat.old.me.0.log) }
-        ensures rests { RestsIn self.now first depth seat.new.me.0 }
-        ensures given { (result.table_id ≡ seat.old.table_id) × (result.me ≡ (idle 1 0, [])) }
+        requires rests { RestsIn self.now first depth (view seat.old) }
+        ensures same { (seat_name seat.new ≡ seat_name seat.old)
+            × ((view seat.new).chain ≡ (view seat.old).chain)
+            × ((view seat.new).log ≡ (view seat.old).log) }
+        ensures rests { RestsIn self.now first depth (view seat.new) }
+        ensures given { (seat_name result ≡ seat_name seat.old) × (view result ≡ idle 1 0) }
     {
         self.tally(seat);
         self.part(seat)

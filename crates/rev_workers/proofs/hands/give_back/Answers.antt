@@ -2,7 +2,6 @@
 use Rattle.std.proofs.Common.{◌≡◌, ◌+◌, length, Some, ap, ◌∙◌, arith}
 use Rattle.std.proofs.lemmas.List.Elements.{All-pop}
 use Rattle.segment_store.specs.Names.{gathered}
-use Rattle.segment_store.proofs.Groups.{same_group}
 use Rattle.hub_core.proofs.Lists.{many_more}
 use Rattle.rev_workers.specs.Hands.{IsHandAt, kept_by}
 use Rattle.rev_workers.proofs.Opened.{kept_more}
@@ -15,9 +14,7 @@ gather-requires g c =
     record {
       own = (
         c.loop.invariant.2,
-        c.into_parts-spent.ensures.own
-            ∙ same_group c.into_parts-keeper.result.1.store.now.table.shared.table_id
-            c.args.store.now.table.shared.table_id (c.into_parts-keeper.ensures.group ∙ h.1),
+        c.into_parts-spent.ensures.own ∙ (c.into_parts-keeper.ensures.group ∙ h.1),
       );
     }
 

@@ -3,7 +3,8 @@ use Rattle.std.proofs.Common.{◌≡◌, ◌+◌, length, Some, ap, ◌∙◌, a
 use Rattle.std.proofs.lemmas.List.Elements.{All-pop, All-push, All-same}
 use Rattle.segment_store.specs.Names.{IsOf, IsSameHold}
 use Rattle.hub_core.proofs.Lists.{many_more}
-use Rattle.rev_workers.specs.Hands.{AreMergesFor, IsHandFor, store_group}
+use Rattle.segment_store.specs.Group.{store_group}
+use Rattle.rev_workers.specs.Hands.{AreMergesFor, IsHandFor}
 use Rattle.rev_workers.proofs.Opened.{last_of}
 use Rattle.rev_workers.proofs.hands.give_hands.Goals as goal
 

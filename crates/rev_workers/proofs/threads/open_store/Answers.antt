@@ -8,6 +8,7 @@ use Rattle.code_soundness.proofs.Accepting.{no_fault_accepted}
 use Rattle.block_run.proofs.Tables.{most_locations}
 use Rattle.segment_store.specs.declared.store.Hold.{Hold}
 use Rattle.segment_store.specs.declared.store.Store.{Store}
+use Rattle.segment_store.specs.Places.{view}
 use Rattle.segment_store.specs.Names.{IsOf}
 use Rattle.rev_workers.specs.Stores.{IsOpened}
 use Rattle.rev_workers.proofs.Opened.{words_many, opened_is}
@@ -25,7 +26,7 @@ open-requires c =
 pub returns : goal.returns
 returns c = IfOk-weaker c.open.result
     (λ (r : Store × Hold).
-    IsOf r.0 r.1 × (r.1.seat.me.0.chain ≡ []) × (r.1.own ≡ None) × (r.0.initial ≡ c.in_ok-words.words)
+    IsOf r.0 r.1 × ((view r.1.seat).chain ≡ []) × (r.1.own ≡ None) × (r.0.initial ≡ c.in_ok-words.words)
     × (r.0.segments ≡ min c.args.segments (2 ^ 26 / r.0.stride)))
     (λ (r : Store × Hold). IsOpened c.args.setting.now.code.vars r.0 r.1)
     (λ r h. opened_is c.args.setting.now.code.vars c.in_ok-words.words r.0 r.1

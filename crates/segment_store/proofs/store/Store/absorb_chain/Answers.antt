@@ -2,6 +2,7 @@
 use Rattle.std.proofs.Common.{arith, ◌-◌, sym, refl, ◌∙◌, subst}
 use Rattle.segment_store.specs.Store.{Has}
 use Rattle.segment_store.proofs.ChainWalks.{sound, chain_of, tail_top, top_part, segment_word}
+use Rattle.segment_store.proofs.Links.{link_in}
 use Rattle.segment_store.proofs.Taken.{taking_starts, takes, taken_all}
 use Rattle.segment_store.proofs.store.Store.absorb_chain.Goals as goal
 
@@ -18,6 +19,9 @@ absorb-requires c = let i = c.loop-left.invariant in
     let at = p.seg in
     record {
       own = (i.0.0 ∙ c.requires.own.0, i.1 ∙ c.requires.own.1, omega arith);
+      link = link_in c.args.self.now c.loop-left.seat c.loop-left.at p.e p.seg p.whole
+          (subst (Has p.e) (sym (chain_of c.args.seat.now c.loop-left.seat i.0.2))
+          (top_part _ _ _ _ _ _ i.2.tail p));
     }
 
 pub overflow_add-at : goal.overflow_add-at
@@ -29,7 +33,13 @@ pub word-at-requires : goal.word-at-requires
 word-at-requires c = let i = c.loop-left.invariant in
     let p = tail_top _ _ _ _ _ _ i.2.tail c.loop-left-test.true in let room = p.whole.room in
     let at = p.seg in let w = c.args.self.now.wide in let w0 = w.0 in
-    record { own = (c.absorb.ensures.same.0 ∙ (i.0.0 ∙ c.requires.own.0), omega arith) }
+    let link = link_in c.args.self.now c.absorb.new.seat c.loop-left.at p.e p.seg p.whole
+    (subst (Has p.e) (sym (chain_of c.args.seat.now c.absorb.new.seat (c.absorb.ensures.same.2 ∙ i.0.2)))
+    (top_part _ _ _ _ _ _ i.2.tail p)) in
+    record {
+      own = (c.absorb.ensures.same.0 ∙ (i.0.0 ∙ c.requires.own.0), (link.0, omega arith, omega arith));
+      link = link;
+    }
 
 pub loop-left-preserved : goal.loop-left-preserved
 loop-left-preserved c = let i = c.loop-left.invariant in let s = c.absorb.ensures.same in

@@ -1,6 +1,7 @@
 -- Answers of Store::collapse: where the first segment is popped the hold rests on its parent, with the same base.
-use Rattle.std.proofs.Common.{arith, rules, refl, ap, ◌∙◌, []}
+use Rattle.std.proofs.Common.{arith, rules, refl, ◌∙◌, []}
 use Rattle.segment_store.specs.Own.{root_in}
+use Rattle.segment_store.proofs.Places.{room_in}
 use Rattle.segment_store.proofs.Pops.{empty}
 use Rattle.segment_store.proofs.ChainWalks.{rests_as}
 use Rattle.segment_store.proofs.store.Store.collapse.Goals as goal
@@ -12,8 +13,7 @@ returns-then-hold-eq0-clause-bottom c =
 pub invariant_of-hold : goal.invariant_of-hold
 invariant_of-hold c = let o = c.requires.own.0 in record {
   rests = rests_as _ _ _ _ _ _ _ _ _ (c.in-Ok.ensures.took []).rests
-      (ap (λ t. t.words) (c.in-Ok.ensures.same.0 ∙ o.0) ∙ c.args.self.now.sized.0) o.1 o.2;
-  no_slots = c.in-Ok.ensures.same.1 ∙ c.args.hold.now.no_slots;
+      (room_in c.args.self.now c.pop.new.seat (c.in-Ok.ensures.same.0 ∙ o.0)) o.1 o.2;
   own_words = λ ws e. absurd (c.if-hold-eq0.false (c.args.hold.now.own_words ws e).1);
   short = let h = c.args.hold.now.short in omega arith;
 }

@@ -1,9 +1,9 @@
 -- Answers of Store::fork: after a share, a push or a copy, child and hold show the delta over the hold's base.
 use Rattle.std.proofs.Common.{arith, ◌<◌, ◌++◌, ℕ, List, sym, ap, ◌∙◌, subst, refl}
 use Rattle.std.proofs.lemmas.Result.{IfOk-weaker}
-use Rattle.atomic_table.specs.Table.{Me}
 use Rattle.version_map.specs.declared.delta.Delta.{Delta}
 use Rattle.version_map.specs.Overlay.{under}
+use Rattle.segment_store.specs.Places.{view}
 use Rattle.segment_store.specs.Entry.{Look}
 use Rattle.segment_store.specs.declared.board.SegmentView.{SegmentView}
 use Rattle.segment_store.specs.Names.{base}
@@ -31,7 +31,7 @@ returns-then-hold-ge-LONGEST-clause-child c = let s = c.args.self.now in let h =
       | then-is_empty+in_default w ↦ subst (Still s h) (sym w.hold-is) (
         w.fork_share.ensures.own.0,
         w.fork_share.ensures.own.1,
-        ap (λ (m : Me (Unit {0}) SegmentView). m.0.log) w.in_default.ensures.none,
+        ap (λ (m : SegmentView). m.log) w.in_default.ensures.none,
       )
       | else-is_empty w ↦ subst (Still s h) (sym w.hold-is) (c.requires.own.0, (refl, refl), refl)
     ] in let k = c.if-is_empty.hold in let d = c.args.delta.now in
@@ -44,7 +44,7 @@ returns-then-hold-ge-LONGEST-clause-parent c = let s = c.args.self.now in let h 
       | then-is_empty+in_default w ↦ subst (Still s h) (sym w.hold-is) (
         w.fork_share.ensures.own.0,
         w.fork_share.ensures.own.1,
-        ap (λ (m : Me (Unit {0}) SegmentView). m.0.log) w.in_default.ensures.none,
+        ap (λ (m : SegmentView). m.log) w.in_default.ensures.none,
       )
       | else-is_empty w ↦ subst (Still s h) (sym w.hold-is) (c.requires.own.0, (refl, refl), refl)
     ] in let k = c.if-is_empty.hold in let d = c.args.delta.now in
@@ -56,7 +56,7 @@ returns-then-hold-ge-LONGEST-clause-copied c = let s = c.args.self.now in let h 
       | then-is_empty+in_default w ↦ subst (Still s h) (sym w.hold-is) (
         w.fork_share.ensures.own.0,
         w.fork_share.ensures.own.1,
-        ap (λ (m : Me (Unit {0}) SegmentView). m.0.log) w.in_default.ensures.none,
+        ap (λ (m : SegmentView). m.log) w.in_default.ensures.none,
       )
       | else-is_empty w ↦ subst (Still s h) (sym w.hold-is) (c.requires.own.0, (refl, refl), refl)
     ] in let k = c.if-is_empty.hold in let d = c.args.delta.now in
@@ -73,7 +73,7 @@ returns-in-Some-fork_push-clause-child c = let s = c.args.self.now in let h = c.
       | then-is_empty+in_default w ↦ subst (Still s h) (sym w.hold-is) (
         w.fork_share.ensures.own.0,
         w.fork_share.ensures.own.1,
-        ap (λ (m : Me (Unit {0}) SegmentView). m.0.log) w.in_default.ensures.none,
+        ap (λ (m : SegmentView). m.log) w.in_default.ensures.none,
       )
       | else-is_empty w ↦ subst (Still s h) (sym w.hold-is) (c.requires.own.0, (refl, refl), refl)
     ] in let k = c.if-is_empty.hold in let d = c.args.delta.now in
@@ -88,7 +88,7 @@ returns-in-Some-fork_push-clause-parent c = let s = c.args.self.now in let h = c
       | then-is_empty+in_default w ↦ subst (Still s h) (sym w.hold-is) (
         w.fork_share.ensures.own.0,
         w.fork_share.ensures.own.1,
-        ap (λ (m : Me (Unit {0}) SegmentView). m.0.log) w.in_default.ensures.none,
+        ap (λ (m : SegmentView). m.log) w.in_default.ensures.none,
       )
       | else-is_empty w ↦ subst (Still s h) (sym w.hold-is) (c.requires.own.0, (refl, refl), refl)
     ] in let k = c.if-is_empty.hold in let d = c.args.delta.now in
@@ -104,7 +104,7 @@ returns-clause-child c = let s = c.args.self.now in let h = c.args.hold.now in
       | then-is_empty+in_default w ↦ subst (Still s h) (sym w.hold-is) (
         w.fork_share.ensures.own.0,
         w.fork_share.ensures.own.1,
-        ap (λ (m : Me (Unit {0}) SegmentView). m.0.log) w.in_default.ensures.none,
+        ap (λ (m : SegmentView). m.log) w.in_default.ensures.none,
       )
       | else-is_empty w ↦ subst (Still s h) (sym w.hold-is) (c.requires.own.0, (refl, refl), refl)
     ] in let k = c.if-is_empty.hold in let d = c.args.delta.now in
@@ -122,7 +122,7 @@ returns-clause-parent c = let s = c.args.self.now in let h = c.args.hold.now in
       | then-is_empty+in_default w ↦ subst (Still s h) (sym w.hold-is) (
         w.fork_share.ensures.own.0,
         w.fork_share.ensures.own.1,
-        ap (λ (m : Me (Unit {0}) SegmentView). m.0.log) w.in_default.ensures.none,
+        ap (λ (m : SegmentView). m.log) w.in_default.ensures.none,
       )
       | else-is_empty w ↦ subst (Still s h) (sym w.hold-is) (c.requires.own.0, (refl, refl), refl)
     ] in let k = c.if-is_empty.hold in let d = c.args.delta.now in
@@ -137,5 +137,5 @@ pub fork_long-requires-clause-some : goal.fork_long-requires-clause-some
 fork_long-requires-clause-some c = let k = c.if-is_empty.hold in
     let long = c.if-hold-ge-LONGEST.true in (
       omega arith,
-      own_none _ _ _ _ _ k.seat.me.0 k.own k.rests k.own_words (λ e. omega arith),
+      own_none _ _ _ _ _ (view k.seat) k.own k.rests k.own_words (λ e. omega arith),
     )

@@ -1,15 +1,21 @@
 -- Answers of Store::part: to split off a seat with one counted hold is a step that the rule allows.
-use Rattle.std.proofs.Common.{arith}
+use Rattle.std.proofs.Common.{◌∙◌, sym}
+use Rattle.segment_store.specs.Places.{size_of}
+use Rattle.sparse_table.proofs.Names.{of_named, named, still_named}
+use Rattle.segment_store.proofs.Places.{some_stride}
 use Rattle.segment_store.proofs.Lifts.{part}
 use Rattle.segment_store.proofs.store.Store.part.Goals as goal
 
 pub split_seat-requires : goal.split_seat-requires
-split_seat-requires c = (
-  c.requires.own,
-  (let s = c.args.self.now.sized in let s0 = s.0 in
-      let s1 = s.1 in let w = c.args.self.now.wide in let w0 = w.0 in let w2 = w.2 in omega arith),
-  part c.args.self.now.table.shared.key.words c.args.self.now.table.shared.key.stride
-      c.args.self.now.table.shared.key.masks (let s = c.args.self.now.sized in
-      let w = c.args.self.now.wide in let s2 = s.2 in let w0 = w.0 in
-      omega arith) _ _ c.requires.counted.0 c.requires.counted.1,
-)
+split_seat-requires c = let s = c.args.self.now in let size = size_of s.table in record {
+  own = of_named s.table c.args.seat.now c.requires.own;
+  splits = part size.words size.stride size.masks (some_stride s) _ _ c.requires.counted.0 c.requires.counted.1;
+}
+
+pub returns-clause-kept : goal.returns-clause-kept
+returns-clause-kept c = let k = c.split_seat.ensures.own in
+    (still_named c.args.seat.now c.split_seat.new.seat k.0, k.0.1, k.1)
+
+pub returns-clause-given : goal.returns-clause-given
+returns-clause-given c = let g = c.split_seat.ensures.given in
+    (named c.args.self.now.table c.split_seat.result g.0 ∙ sym c.requires.own, g.1)

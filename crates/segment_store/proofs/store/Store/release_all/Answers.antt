@@ -1,6 +1,5 @@
 -- Answers of Store::release_all: a segment that loses its last reference falls, and then its parent is the first.
 use Rattle.std.proofs.Common.{arith, sym, ap, ◌∙◌, refl}
-use Rattle.atomic_table.specs.Table.{Me}
 use Rattle.segment_store.specs.declared.board.SegmentView.{SegmentView}
 use Rattle.segment_store.proofs.ChainWalks.{falls, falls_same, chain_of, head_word, fallen, let_go}
 use Rattle.segment_store.specs.Store.{first_of}
@@ -18,7 +17,6 @@ loop-below-init c = let r = c.requires.rests in
       left_same = refl;
       log = refl;
       alone = λ none. none;
-      slots = refl;
       table = refl;
       number = refl;
     }
@@ -38,8 +36,8 @@ loop-below-preserved c = let f = c.loop-below.invariant in let same = c.word-up.
 pub returns-then-not-release_one-clause-log : goal.returns-then-not-release_one-clause-log
 returns-then-not-release_one-clause-log c = let f = c.loop-below.invariant in
     let e = c.release_one.ensures.more c.if-not-release_one.true in
-    ap (λ (m : Me (Unit {0}) SegmentView). m.0.log) e.2
-    ∙ (ap (λ (m : Me (Unit {0}) SegmentView). m.0.log) c.word-up.ensures.same.2 ∙ f.log)
+    ap (λ (m : SegmentView). m.log) e.2
+    ∙ (ap (λ (m : SegmentView). m.log) c.word-up.ensures.same.2 ∙ f.log)
 
 pub returns-then-not-release_one-clause-rests : goal.returns-then-not-release_one-clause-rests
 returns-then-not-release_one-clause-rests c = let f = c.loop-below.invariant in

@@ -1,15 +1,18 @@
 -- Answers of Store::release_one: to take 1 from the count of the seat's first segment is a step the rule allows.
-use Rattle.std.proofs.Common.{arith}
+use Rattle.std.proofs.Common.{arith, ◌+◌, ◌-◌, ◌^◌, ◌%◌}
+use Rattle.segment_store.specs.Places.{size_of}
+use Rattle.sparse_table.proofs.Names.{of_named}
+use Rattle.segment_store.proofs.Places.{part_in, some_stride}
+use Rattle.segment_store.proofs.Wanted.{chain_backs, first_in}
 use Rattle.segment_store.proofs.Lifts.{release}
 use Rattle.segment_store.proofs.store.Store.release_one.Goals as goal
 
-pub fetch_sub-requires : goal.fetch_sub-requires
-fetch_sub-requires c = (
-  c.requires.own.0,
-  (let s = c.args.self.now.sized in let s0 = s.0 in
-      let o = c.requires.own in let o1 = o.1 in omega arith),
-  release c.args.self.now.table.shared.key.words c.args.self.now.table.shared.key.stride
-      c.args.self.now.table.shared.key.masks (let s = c.args.self.now.sized in
-      let w = c.args.self.now.wide in let s2 = s.2 in let w0 = w.0 in
-      omega arith) _ _ _ _ c.requires.head.0 c.requires.head.1 c.requires.head.2,
-)
+pub sub_head-requires : goal.sub_head-requires
+sub_head-requires c = let s = c.args.self.now in let size = size_of s.table in let o = c.requires.own in
+    let h = c.requires.head in record {
+      own = (of_named s.table c.args.seat.now o.0, part_in s c.args.segment o.1, omega arith);
+      allowed = release size.words size.stride size.masks (some_stride s) _ _ _ _ o.1.0 h.0 h.1;
+      backed = chain_backs size.words size.stride size.masks (some_stride s) _ _ _ c.args.segment (λ n. (n + (2 ^ 64 -
+          1)) % 2 ^ 64)
+          (first_in _ c.args.segment o.1.0 h.0);
+    }

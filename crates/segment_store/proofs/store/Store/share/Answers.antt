@@ -1,16 +1,19 @@
 -- Answers of Store::share: to add 1 to the count of the chain's first segment is a step that the rule allows.
-use Rattle.std.proofs.Common.{arith}
+use Rattle.std.proofs.Common.{◌+◌, eqb}
+use prog.Atomic.{either}
+use Rattle.segment_store.specs.Places.{size_of}
+use Rattle.sparse_table.proofs.Names.{of_named}
+use Rattle.segment_store.proofs.Places.{part_in, some_stride}
+use Rattle.segment_store.proofs.Wanted.{chain_backs, first_in}
 use Rattle.segment_store.proofs.Lifts.{share}
 use Rattle.segment_store.proofs.store.Store.share.Goals as goal
 
-pub compare_exchange-requires : goal.compare_exchange-requires
-compare_exchange-requires c = (
-  c.requires.own.0,
-  (let s = c.args.self.now.sized in let s0 = s.0 in
-      let o = c.requires.own in let o1 = o.1 in omega arith),
-  share c.args.self.now.table.shared.key.words c.args.self.now.table.shared.key.stride
-      c.args.self.now.table.shared.key.masks (let s = c.args.self.now.sized in
-      let w = c.args.self.now.wide in let s2 = s.2 in let w0 = w.0 in
-      omega arith) _ _ _ _ _ c.requires.head.0 c.requires.head.1 c.requires.head.2 c.requires.few.0
-      c.requires.few.1,
-)
+pub exchange_head-requires : goal.exchange_head-requires
+exchange_head-requires c = let s = c.args.self.now in let size = size_of s.table in let o = c.requires.own in
+    let h = c.requires.head in record {
+      own = (of_named s.table c.args.seat.now o.0, part_in s c.args.segment o.1);
+      allowed = share size.words size.stride size.masks (some_stride s) _ _ _ _ _ o.1.0 h.0 h.1 c.requires.few.0
+          c.requires.few.1;
+      backed = chain_backs size.words size.stride size.masks (some_stride s) _ _ _ c.args.segment
+          (λ n. either (eqb n c.args.old) (c.args.old + 1) n) (first_in _ c.args.segment o.1.0 h.0);
+    }

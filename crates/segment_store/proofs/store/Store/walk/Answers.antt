@@ -1,8 +1,10 @@
 -- Answers of Store::walk: a set bit means that the segment has the value, and else what is below has it.
-use Rattle.std.proofs.Common.{arith, rules, ◌+◌, ◌-◌, ◌%◌, sym, refl, ◌∙◌}
+use Rattle.std.proofs.Common.{arith, rules, ◌+◌, ◌-◌, ◌%◌, sym, refl, ◌∙◌, subst}
 use Rattle.std.proofs.lemmas.Nat.Bits.{shr_and_one}
 use Rattle.std.proofs.lemmas.List.{get_or_read_under}
 use Rattle.segment_store.proofs.ChainWalks.{start, visit, loaded, chain_of, row_of, bit_loaded, ended}
+use Rattle.segment_store.specs.Store.{Has}
+use Rattle.segment_store.proofs.Links.{link_in}
 use Rattle.segment_store.proofs.store.Store.walk.Goals as goal
 
 pub loop-left-init : goal.loop-left-init
@@ -23,7 +25,13 @@ word-mask-requires c = let a = visit _ _ _ _ _ _ _ _ c.loop-left.invariant.1
     c.loop-left-test.true in let w = c.args.self.now.wide in let w0 = w.0 in let w3 = w.3 in
     let room = a.whole.room in let at = a.seg in let l = c.requires.inside in
     let low = row_of c.args.self.now.masks _ c.args.location c.args.self.now.rowed.0
-    c.requires.inside in record { own = (c.loop-left.invariant.0.0 ∙ c.requires.own, omega arith) }
+    c.requires.inside in
+    let link = link_in c.args.self.now c.loop-left.seat c.loop-left.at a.e a.seg a.whole
+    (subst (Has a.e) (sym (chain_of c.args.seat.now c.loop-left.seat c.loop-left.invariant.0.2)) a.has) in
+    record {
+      own = (c.loop-left.invariant.0.0 ∙ c.requires.own, (link.0, omega arith, omega arith));
+      link = link;
+    }
 
 pub overflow_add-at-then-mask-location-eq1 : goal.overflow_add-at-then-mask-location-eq1
 overflow_add-at-then-mask-location-eq1 c = let a =
@@ -39,11 +47,15 @@ word-requires c = let a = visit _ _ _ _ _ _ _ _ c.loop-left.invariant.1 c.loop-l
     let at = a.seg in let l = c.requires.inside in
     let low = row_of c.args.self.now.masks _ c.args.location c.args.self.now.rowed.0
     c.requires.inside in
+    let link = link_in c.args.self.now c.word-mask.new.seat c.loop-left.at a.e a.seg a.whole
+    (subst (Has a.e) (sym (chain_of c.args.seat.now c.word-mask.new.seat (c.word-mask.ensures.same.2
+    ∙ c.loop-left.invariant.0.2))) a.has) in
     record {
       own = (
         c.word-mask.ensures.same.0 ∙ (c.loop-left.invariant.0.0 ∙ c.requires.own),
-        omega arith,
+        (link.0, omega arith, omega arith),
       );
+      link = link;
     }
 
 pub returns-then-mask-location-eq1-clause-value : goal.returns-then-mask-location-eq1-clause-value
@@ -83,11 +95,15 @@ word-at-requires c = let a = visit _ _ _ _ _ _ _ _ c.loop-left.invariant.1 c.loo
     let at = a.seg in let l = c.requires.inside in
     let low = row_of c.args.self.now.masks _ c.args.location c.args.self.now.rowed.0
     c.requires.inside in
+    let link = link_in c.args.self.now c.word-mask.new.seat c.loop-left.at a.e a.seg a.whole
+    (subst (Has a.e) (sym (chain_of c.args.seat.now c.word-mask.new.seat (c.word-mask.ensures.same.2
+    ∙ c.loop-left.invariant.0.2))) a.has) in
     record {
       own = (
         c.word-mask.ensures.same.0 ∙ (c.loop-left.invariant.0.0 ∙ c.requires.own),
-        omega arith,
+        (link.0, omega arith, omega arith),
       );
+      link = link;
     }
 
 pub loop-left-preserved : goal.loop-left-preserved

@@ -1,0 +1,10 @@
+pub mod Laid
+pub mod Spots
+pub mod Changes
+pub mod Steps
+pub mod Cuts
+pub mod Makes
+pub mod Names
+pub mod Ends
+pub mod Same
+pub mod Opened

@@ -1,0 +1,36 @@
+-- Answers of Table::load: the words allow the step where the user's rule does.
+use Rattle.std.proofs.Common.{ℕ, arith}
+use Rattle.sparse_table.proofs.Spots.{inner_in}
+use Rattle.sparse_table.proofs.Steps.{inner_told_at, told_rests, told_trail, told_user}
+use Rattle.sparse_table.proofs.table.Table.load.Goals as goal
+
+pub load-requires : goal.load-requires
+load-requires g c = let t = c.args.self.now.keyed in let z = c.args.self.now.sized in let own = c.requires.own in
+    let k = c.args.self.now.words.key in (
+      own.0.0,
+      (let few = t.3 in let all = t.4 in let low = inner_in c.args.self.now.len c.args.self.now.width
+          c.args.self.now.shift z.3 z.4 c.args.part c.args.i z.2 own.1.0 own.1.1 in omega arith),
+      inner_told_at (g.P.PartRule.holds k.about) g.P.PartRule.makes g.P.PartRule.needs k.words k.width k.shift
+          c.args.self.now.len c.args.self.now.width c.args.self.now.shift t.0 t.1 t.2 z.3 z.4
+          c.args.seat.now.pass.id c.args.seat.now.pass.view own.0.1 own.0.2 own.0.3 c.args.seat.now.rests
+          g.M.Play.then 0
+          0 (λ (n : ℕ). n) (λ (n : ℕ). n) (λ n l. l)
+          c.args.part c.args.i own.1.0 own.1.1 c.requires.allowed c.requires.there,
+    )
+
+pub invariant_of-seat : goal.invariant_of-seat
+invariant_of-seat g c = record {
+  rests = told_rests g.M.Play.then _ _ _ _ c.args.seat.now.pass.view _
+      c.load.ensures.2 c.args.seat.now.rests;
+}
+
+pub returns-clause-own : goal.returns-clause-own
+returns-clause-own g c = let e = c.load.ensures in (
+  e.0,
+  e.1,
+  told_trail g.M.Play.then _ _ _ _
+      c.args.seat.now.pass.view _ e.2,
+)
+
+pub returns-clause-told : goal.returns-clause-told
+returns-clause-told g c = told_user g.M.Play.then _ _ _ _ c.args.seat.now.pass.view _ c.load.ensures.2
