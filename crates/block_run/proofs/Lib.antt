@@ -5,8 +5,10 @@ pub mod WordsFound
 pub mod NextPlaces
 pub mod Onward
 pub mod Turning
+pub mod Loops
 pub mod Tables
 pub mod Ascending
 pub mod Rooms
 pub mod Numbers
 pub mod Rows
+pub mod Positions

@@ -6,3 +6,5 @@ pub mod Stops
 pub mod Standing
 pub mod Plain
 pub mod Agreement
+pub mod Marks
+pub mod WhereOn

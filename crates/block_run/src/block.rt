@@ -13,6 +13,7 @@ ghost use Rattle.block_run.specs.Standing.{Ends, Here, IsRoomy, Mode};
 
 use crate::instruction::act;
 use crate::memory::Memory;
+use crate::notes::Notes;
 use crate::registers::{Act, Registers, Stop, Variable};
 use rev_code::{Code, CodeBlock, Instr};
 use version_map::Snapshot;
@@ -70,10 +71,11 @@ pub fn run_block<P: Snapshot>(
         fuel: registers.fuel,
         line: registers.line,
     };
+    let mut notes = Notes::Off;
     let instrs = b.instrs.as_slice();
     let mut x = fetch(instrs, r.at);
     loop {
-        match act(code, table, inputs, b, memory, words, &mut r, x) {
+        match act(code, table, inputs, b, memory, words, &mut r, x, &mut notes) {
             Act::Goes => x = fetch(instrs, r.at),
             last => {
                 registers.at = r.at;

@@ -10,9 +10,13 @@ ghost use Rattle.version_map.specs.Overlay.{under};
 ghost use Rattle.block_run.specs.Remembering.{Kept, Wrote};
 ghost use Rattle.block_run.specs.Area.{count, pushes, run_of, taken, Does, IsAct, IsOperand};
 ghost use Rattle.block_run.specs.Area.{IsPlaced, IsTable, IsVariable, StaysIn};
+ghost use Rattle.block_run.specs.Marks.{plain_marks};
 ghost use Rattle.block_run.specs.Stops.{stop_of};
+ghost use Rattle.block_run.specs.WhereOn.{HasMarkedIfOn, HasPlacesIfOn};
 
+use crate::marking::{note_count_input, note_load, note_load_cell, note_load_input};
 use crate::memory::Memory;
+use crate::notes::Notes;
 use crate::registers::{Act, BlockTrap, Registers, Variable};
 use crate::values;
 use rev_code::{Code, CodeBlock, Instr};
@@ -21,7 +25,7 @@ use version_map::Snapshot;
 
 /// The location of a cell, where the index is inside.
 #[inline(always)]
-fn cell(t: Variable, index: u64) -> Option<u32>
+pub(crate) fn cell(t: Variable, index: u64) -> Option<u32>
     requires { t.first + t.cells < 2 ^ 32 }
     ensures value { (p : Place) → p.first ≡ t.first → p.var.cells ≡ t.cells
         → result ≡ cell_at p (int_of index) }
@@ -227,7 +231,8 @@ fn act_check_cell(
     }
 }
 
-/// Does one instruction of a block, unless it leaves the block or meets another revision.
+/// Does one instruction of a block, unless it leaves the block or meets another revision. Where notes
+/// are on it notes what the instruction reads; only an instruction that reads looks whether they are.
 #[inline(always)]
 pub fn act<P: Snapshot>(
     code: &Code,
@@ -238,12 +243,16 @@ pub fn act<P: Snapshot>(
     words: &mut [u64],
     r: &mut Registers,
     x: &Instr,
+    notes: &mut Notes,
 ) -> Act
     requires table { IsTable code.now.vars table.now }
     requires size { P.size memory.old.snapshot ≡ count code.now.vars }
     requires operand { IsOperand code.now.vars b.now x.now }
     requires placed { IsPlaced b.now r.old (length words.old) (taken x.now) }
     requires room { r.old.top + pushes x.now ≤ length words.old }
+    requires places { HasPlacesIfOn (P.size memory.old.snapshot) inputs.now notes.old }
+    ensures marked { HasMarkedIfOn notes.old notes.new (plain_marks code.now.vars inputs.now
+        (at memory.old.first.roots) (run_of b.now words.old r.old) x.now) }
     ensures does { Does (p.plain code.now.vars inputs.now
         (under memory.old.delta (P.base memory.old.snapshot))
         (run_of b.now words.old r.old) x.now)
@@ -269,6 +278,7 @@ pub fn act<P: Snapshot>(
         Instr::StoreLocal(n) => values::act_store(b, words, r, n),
         Instr::LoadShared(v) => {
             let t = scalar_at(code, table, v);
+            note_load(code, inputs, memory, t, v, notes);
             act_load_shared(code, b, memory, words, r, v, t)
         },
         Instr::StoreShared(v) => {
@@ -277,6 +287,7 @@ pub fn act<P: Snapshot>(
         },
         Instr::LoadCell(v) => {
             let t = array_at(code, table, v);
+            note_load_cell(code, inputs, b, memory, words, r, t, v, notes);
             act_load_cell(code, b, memory, words, r, v, t)
         },
         Instr::StoreCell(v) => {
@@ -287,8 +298,14 @@ pub fn act<P: Snapshot>(
             let t = array_at(code, table, v);
             act_check_cell(code, b, words, r, v, t)
         },
-        Instr::LoadInput => values::act_load_input(b, words, r, inputs),
-        Instr::CountInput => values::act_count_input(b, words, r, inputs),
+        Instr::LoadInput => {
+            note_load_input(inputs, b, words, r, notes);
+            values::act_load_input(b, words, r, inputs)
+        },
+        Instr::CountInput => {
+            note_count_input(notes);
+            values::act_count_input(b, words, r, inputs)
+        },
         Instr::Add => values::act_add(b, words, r),
         Instr::Sub => values::act_sub(b, words, r),
         Instr::Mul => values::act_mul(b, words, r),

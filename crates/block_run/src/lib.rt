@@ -3,7 +3,9 @@
 
 mod block;
 mod instruction;
+mod marking;
 mod memory;
+mod notes;
 mod registers;
 mod table;
 mod values;
@@ -12,6 +14,7 @@ mod words;
 pub use block::run_block;
 pub use instruction::act;
 pub use memory::Memory;
+pub use notes::{Notes, ReadMarks};
 pub use registers::{Act, BlockTrap, Registers, Stop, Variable};
 pub use table::table_of;
 pub use words::agreement;

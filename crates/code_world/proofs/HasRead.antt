@@ -7,8 +7,8 @@ use Rattle.revision_machine.specs.Numbered.{Entries, World, Both, Listing, at_nu
 use Rattle.code_machine.specs.Local.{CodeRun, IsVerified, Local, at_work}
 use Rattle.code_machine_laws.specs.LegReads.{leg_reads}
 use Rattle.code_machine_laws.specs.Reached.{IsReached}
-use Rattle.noting_run.specs.declared.notes.ReadMarks.{ReadMarks}
-use Rattle.noting_run.specs.Marks.{marks_of, HasMarked}
+use Rattle.block_run.specs.declared.notes.ReadMarks.{ReadMarks}
+use Rattle.leg_run.specs.Marks.{marks_of, HasMarked}
 use Rattle.code_world.specs.declared.slot.WorldSlot.{WorldSlot}
 use Rattle.code_world.specs.declared.slot.WorldSlot.TheVariants as slot
 use Rattle.code_world.specs.declared.table.Stage.{Stage}

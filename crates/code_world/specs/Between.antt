@@ -9,8 +9,8 @@ use Rattle.revision_machine.specs.Machine.{Plain}
 use Rattle.revision_machine.specs.Numbered.{Entries, World, Listing, at_number, put_number}
 use Rattle.code_machine.specs.Local.{CodeRun, Local, at_work}
 use Rattle.code_machine_laws.specs.LegReads.{leg_reads}
-use Rattle.noting_run.specs.declared.notes.ReadMarks.{ReadMarks}
-use Rattle.noting_run.specs.Marks.{marks_of, HasMarked}
+use Rattle.block_run.specs.declared.notes.ReadMarks.{ReadMarks}
+use Rattle.leg_run.specs.Marks.{marks_of, HasMarked}
 use Rattle.code_world.specs.declared.advance.Came.{Came}
 use Rattle.code_world.specs.declared.slot.WorldSlot.{WorldSlot}
 use Rattle.code_world.specs.declared.slot.WorldSlot.TheVariants as slot

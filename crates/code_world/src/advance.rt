@@ -9,7 +9,7 @@ ghost use Rattle.rev_vm.specs.Meaning.{AreMergesOf};
 ghost use Rattle.code_machine.specs.Local.{CodeRun, End};
 ghost use Rattle.code_machine.specs.Leg.{leg};
 ghost use Rattle.code_machine_laws.specs.LegReads.{leg_reads};
-ghost use Rattle.noting_run.specs.Marks.{HasMarked, marks_of};
+ghost use Rattle.leg_run.specs.Marks.{HasMarked, marks_of};
 ghost use Rattle.rev_vm.specs.Meaning.{IsEnd};
 ghost use Rattle.version_map.specs.Deltas.{locations};
 ghost use Rattle.rev_vm.specs.Starts.{run_under};
@@ -18,8 +18,7 @@ ghost use Rattle.code_world.specs.LegOutcomes.{HasCome, HasMet, IsMeeting, meets
 ghost use Rattle.code_world.specs.Slots.{Runs, StandsAtFork, StandsAtJoin};
 
 use crate::slot::WorldSlot;
-use leg_run::CodeSetting;
-use noting_run::ReadMarks;
+use leg_run::{CodeSetting, ReadMarks};
 use rev_vm::{
     AtFork, AtJoin, Event, Runner, Settled, Spares, retire, run_leg, run_leg_noting, settle,
 };

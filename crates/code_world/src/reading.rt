@@ -17,8 +17,7 @@ ghost use Rattle.code_world.specs.Tables.{IsWorld};
 use crate::answer::LegAnswer;
 use crate::noted::{NotedLeg, noted_end};
 use crate::world::{World, world_of};
-use leg_run::CodeSetting;
-use noting_run::ReadMarks;
+use leg_run::{CodeSetting, ReadMarks};
 use std::alloc::{AllocError, Global};
 use version_map::MergeBy;
 

@@ -21,8 +21,7 @@ use crate::answer::LegAnswer;
 use crate::noted::{NotedLeg, noted_end, noted_fork, noted_join};
 use crate::slot::WorldSlot;
 use crate::table::{Stage, Table};
-use leg_run::CodeSetting;
-use noting_run::ReadMarks;
+use leg_run::{CodeSetting, ReadMarks};
 use std::alloc::{AllocError, Global};
 use version_map::{Finish, MergeBy};
 

@@ -22,8 +22,8 @@ use Rattle.version_map.specs.declared.end.Written.{Written}
 use Rattle.code_machine_laws.specs.Reads as reads
 use Rattle.code_machine_laws.specs.Reads.{Read}
 use Rattle.code_machine_laws.specs.Moved.{AllAgree}
-use Rattle.noting_run.specs.declared.notes.ReadMarks.{ReadMarks}
-use Rattle.noting_run.specs.Marks.{marks_of, has_location, has_input, has_count}
+use Rattle.block_run.specs.declared.notes.ReadMarks.{ReadMarks}
+use Rattle.leg_run.specs.Marks.{marks_of, has_location, has_input, has_count}
 use Rattle.code_machine.specs.Local.{CodeRun, Phase, running, done, trapped, of_word}
 use Rattle.code_machine.specs.Renamed.{renamed_phase}
 use Rattle.code_memos.specs.Leaf.{Fresh, Known}

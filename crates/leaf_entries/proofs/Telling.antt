@@ -14,8 +14,8 @@ use Rattle.code_machine_laws.specs.Reads.{Read, reach_reads}
 use Rattle.code_machine_laws.specs.LegReads.{leg_reads}
 use Rattle.code_machine_laws.specs.Moved.{AllAgree}
 use Rattle.code_machine_laws.proofs.OwnReads.{own_reads_agree}
-use Rattle.noting_run.specs.declared.notes.ReadMarks.{ReadMarks}
-use Rattle.noting_run.specs.Marks.{Mark, mark_of, marks_of, has_location, has_input, has_count, HasMarked}
+use Rattle.block_run.specs.declared.notes.ReadMarks.{ReadMarks}
+use Rattle.leg_run.specs.Marks.{Mark, mark_of, marks_of, has_location, has_input, has_count, HasMarked}
 use Rattle.code_machine.specs.Local.{CodeRun, under, Local, at_work, of_word, of_written, of_locations, of_phase, of_state, with_entry, written_from, end_of}
 use Rattle.code_machine.specs.Leg.{leg, clock}
 use Rattle.code_machine.specs.Machines.{Holds}

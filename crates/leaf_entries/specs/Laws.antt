@@ -11,8 +11,8 @@ use Rattle.version_map.specs.declared.end.EndValue.{EndValue}
 use Rattle.revision_machine.specs.Machine.{Plain}
 use Rattle.revision_machine.specs.Numbered.{Entries, Listing, at_number, paths_of, begin, Replays}
 use Rattle.code_machine_laws.specs.LegReads.{leg_reads}
-use Rattle.noting_run.specs.declared.notes.ReadMarks.{ReadMarks}
-use Rattle.noting_run.specs.Marks.{marks_of, HasMarked}
+use Rattle.block_run.specs.declared.notes.ReadMarks.{ReadMarks}
+use Rattle.leg_run.specs.Marks.{marks_of, HasMarked}
 use Rattle.code_machine.specs.Local.{CodeRun, IsVerified, Local, at_work, End, end_of}
 use Rattle.code_machine.specs.Leg.{leg}
 use Rattle.code_machine.specs.Machines.{numbered, IsMain, start_in}

@@ -11,8 +11,8 @@ use Rattle.revision_machine.specs.Numbered.{number_of}
 use Rattle.version_map.specs.Composing.{Entry}
 use Rattle.version_map.specs.Deltas.{at}
 use Rattle.version_map.specs.declared.end.EndValue.{EndValue}
-use Rattle.noting_run.specs.declared.notes.ReadMarks.{ReadMarks}
-use Rattle.noting_run.specs.Marks.{Mark, marks_of, has_location, has_input, has_count}
+use Rattle.block_run.specs.declared.notes.ReadMarks.{ReadMarks}
+use Rattle.leg_run.specs.Marks.{Mark, marks_of, has_location, has_input, has_count}
 use Rattle.code_machine.specs.Local.{CodeRun, Phase, running, done, trapped, of_word}
 use Rattle.code_memos.specs.Renaming.{renamed_end}
 use Rattle.code_memos.specs.Leaf.{Fresh, Known, IsValid}

@@ -4,8 +4,7 @@ ghost use Rattle.std.specs.Prelude.{◌≡◌, ◌<◌, ◌^◌, IfOk, length};
 ghost use Rattle.version_map.specs.Deltas.{locations};
 ghost use Rattle.leaf_entries.specs.Told.{IsBlank};
 
-use leg_run::CodeSetting;
-use noting_run::ReadMarks;
+use leg_run::{CodeSetting, ReadMarks};
 use std::alloc::{AllocError, Global};
 use version_map::Delta;
 

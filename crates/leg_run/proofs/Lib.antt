@@ -1,4 +1,9 @@
 -- Proofs of leg_run: a running revision, and its legs from event to event.
+pub mod Adding
+pub mod Agreeing
+pub mod IfOn
+pub mod Marks
+pub mod Rounds
 pub mod Decoding
 pub mod Frames
 pub mod Calling

@@ -14,16 +14,16 @@ use Rattle.code_machine.specs.Leg.{IsEvent}
 use Rattle.code_machine.specs.Local.{CodeRun}
 use Rattle.code_soundness.proofs.Accepting.{no_fault_accepted}
 use Rattle.block_run.specs.Agreement.{AreInputs}
-use Rattle.noting_run.specs.Runs.{step_reads, reads_of}
-use Rattle.noting_run.proofs.Adding.{leg_reads_of_steps, marks_more}
-use Rattle.noting_run.proofs.IfOn.{marked_more_if_on}
-pub use Rattle.noting_run.proofs.IfOn.{marked_back, on_of, places_of}
+use Rattle.leg_run.specs.Runs.{step_reads, reads_of}
+use Rattle.leg_run.proofs.Adding.{leg_reads_of_steps, marks_more}
+use Rattle.leg_run.proofs.IfOn.{marked_more_if_on}
+pub use Rattle.leg_run.proofs.IfOn.{marked_back, places_of}
 use Rattle.block_run.specs.Standing.{program, IsLeaving}
 use Rattle.block_run.specs.declared.registers.Registers.{Registers}
 use Rattle.block_run.specs.declared.registers.Stop.{Stop}
 use Rattle.block_run.specs.declared.registers.Stop.TheVariants as stop
-use Rattle.noting_run.specs.Runs.{EndsNoting}
-use Rattle.noting_run.proofs.Rounds.{reads_nothing}
+use Rattle.leg_run.specs.Runs.{EndsNoting}
+use Rattle.leg_run.proofs.Rounds.{reads_nothing}
 use Rattle.leg_run.specs.declared.revision.LegEnd.{LegEnd}
 use Rattle.leg_run.specs.declared.revision.LegEnd.TheVariants as end
 use Rattle.leg_run.specs.declared.revision.Run.{Run}

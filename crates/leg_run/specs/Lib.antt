@@ -3,4 +3,7 @@ pub mod Standing
 pub mod Changes
 pub mod Ends
 pub mod Printed
+pub mod Marks
+pub mod Runs
+pub mod ByMarks
 pub mod Noting

@@ -6,12 +6,12 @@ use Rattle.rev_code.specs.declared.code.Code.{Code}
 use Rattle.rev_code.specs.State.{State}
 use Rattle.rev_code.specs.Step.{goes, step, Steps}
 use Rattle.rev_code.specs.Funs.{setting}
-use Rattle.noting_run.specs.Runs.{step_reads, reads_of}
-use Rattle.noting_run.specs.ByMarks.{leg_reads}
-pub use Rattle.noting_run.specs.declared.notes.ReadMarks.{ReadMarks}
-pub use Rattle.noting_run.specs.declared.notes.Notes.{Notes}
-pub use Rattle.noting_run.specs.Marks.{marks_of, HasMarked}
-pub use Rattle.noting_run.specs.WhereOn.{HasMarkedIfOn, HasPlaces, HasPlacesIfOn, is_on}
+use Rattle.leg_run.specs.Runs.{step_reads, reads_of}
+use Rattle.leg_run.specs.ByMarks.{leg_reads}
+pub use Rattle.block_run.specs.declared.notes.ReadMarks.{ReadMarks}
+pub use Rattle.block_run.specs.declared.notes.Notes.{Notes}
+pub use Rattle.leg_run.specs.Marks.{marks_of, HasMarked}
+pub use Rattle.block_run.specs.WhereOn.{HasMarkedIfOn, HasPlaces, HasPlacesIfOn}
 use Rattle.leg_run.specs.declared.revision.Run.{Run}
 use Rattle.leg_run.specs.declared.turn.BlockExit.{BlockExit}
 use Rattle.leg_run.specs.declared.turn.BlockExit.TheVariants as turn

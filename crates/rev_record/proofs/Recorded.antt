@@ -27,8 +27,8 @@ use Rattle.code_world.specs.Beginnings.{FreshAt}
 use Rattle.code_world.specs.Endings.{Names, IsEndAt}
 use Rattle.code_world.specs.Meetings.{HasMeeting, MeetingOf, HasNoted}
 use Rattle.code_world.specs.Tables.{IsWorld}
-use Rattle.noting_run.specs.declared.notes.ReadMarks.{ReadMarks}
-use Rattle.noting_run.specs.Marks.{marks_of, HasMarked}
+use Rattle.block_run.specs.declared.notes.ReadMarks.{ReadMarks}
+use Rattle.leg_run.specs.Marks.{marks_of, HasMarked}
 use Rattle.code_machine_laws.specs.LegReads.{leg_reads}
 use Rattle.version_map.specs.Deltas.{locations}
 use Rattle.code_world.specs.Between.{HasReadOf, HasReadIn}

@@ -17,8 +17,8 @@ use Rattle.leg_run.specs.declared.revision.Meeting.{Meeting}
 use Rattle.revision_machine.specs.Machine.{Plain}
 use Rattle.revision_machine.specs.Numbered.{Entries, World, Listing, at_number, begin, Replays}
 use Rattle.code_machine_laws.specs.LegReads.{leg_reads}
-use Rattle.noting_run.specs.declared.notes.ReadMarks.{ReadMarks}
-use Rattle.noting_run.specs.Marks.{marks_of, HasMarked}
+use Rattle.block_run.specs.declared.notes.ReadMarks.{ReadMarks}
+use Rattle.leg_run.specs.Marks.{marks_of, HasMarked}
 use Rattle.code_machine.specs.Local.{CodeRun, Local, at_work}
 use Rattle.code_machine.specs.Machines.{numbered, IsMain, start_in}
 use Rattle.code_memos.specs.Leaf.{Fresh, IsFresh, Known}

@@ -19,8 +19,7 @@ ghost use Rattle.rev_record.specs.Legs.{is_leaf as defined_leaf};
 
 use code_world::{FreshStart, LegAnswer, NotedLeg, World, fresh, leg, leg_noting};
 use leaf_entries::{LeafEntry, blank, make_entry};
-use leg_run::CodeSetting;
-use noting_run::ReadMarks;
+use leg_run::{CodeSetting, ReadMarks};
 use std::alloc::{AllocError, Global};
 use version_map::MergeBy;
 use world_runs::Legs;

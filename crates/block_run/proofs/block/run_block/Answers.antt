@@ -1,42 +1,23 @@
 -- Answers of run_block: each instruction is one step of the machine, and the last one's end follows the steps before.
-use Rattle.std.proofs.Common.{◌≡◌, ◌≢◌, ◌∙◌, ℕ, List, Option, ◌<◌, ◌^◌, length, sym, ap, refl, arith, subst, ◌+◌, ◌≤◌}
+use Rattle.std.proofs.Common.{◌≡◌, ◌∙◌, ℕ, List, Option, ◌<◌, ◌^◌, length, sym, ap, refl, arith, subst}
 use Rattle.std.specs.Prelude.{ℤ, slice_get}
 use Rattle.rev_code.specs.Step as step
 use Rattle.rev_code.specs.declared.code.Code.{Code}
-use Rattle.code_soundness.specs.AcceptedCode.{notes_of}
 use Rattle.rev_code.specs.declared.code.CodeBlock.{CodeBlock}
 use Rattle.rev_code.specs.State.{State}
-use Rattle.block_run.specs.declared.registers.Act.{Act}
-use Rattle.block_run.specs.declared.registers.Act.TheVariants as act
 use Rattle.block_run.specs.declared.registers.Registers.{Registers}
 use Rattle.block_run.specs.declared.registers.Stop.{Stop}
 use Rattle.block_run.specs.declared.registers.Stop.TheVariants as stop
-use Rattle.block_run.specs.Area.{low}
-use Rattle.block_run.specs.Standing.{Ends, IsRoomy, Mode}
+use Rattle.block_run.specs.Standing.{Ends, Mode}
 use Rattle.block_run.specs.Stops.{stop_of}
+use Rattle.block_run.specs.declared.notes.Notes.{Notes}
+use Rattle.block_run.specs.declared.notes.Notes.TheVariants as notes
+use Rattle.block_run.specs.Marks.{Mark}
+use Rattle.block_run.specs.WhereOn.{HasMarkedIfOn, HasPlacesIfOn}
 use Rattle.block_run.proofs.Turning.{inside_now, found_operand, placed, room, onward, smaller, ended, all_same, below_still, quiet, kept_on}
 use Rattle.block_run.proofs.Locations.{all_kept}
+use Rattle.block_run.proofs.Loops.{few_locations, not_goes, roomy_still, same_registers}
 use Rattle.block_run.proofs.block.run_block.Goals as goal
-
-roomy_still : (code : Code) (b : CodeBlock) (r r' : Registers) (n n' : ℕ) → IsRoomy code b r n → r'.block ≡ r.block
-    → r'.base ≡ r.base → n' ≡ n → IsRoomy code b r' n'
-roomy_still code b r r' n n' h d e f at k =
-    let g = subst (λ m. low b r + length (notes_of code m at).shape ≤ n) (sym d) (h at k) in omega (arith, g, e, f)
-
-few_locations : (size size' most few : ℕ) → size' ≡ size → size ≡ most → few ≤ most → few ≤ size'
-few_locations size size' most few e f h = omega (arith, e, f, h)
-
-not_goes : (a : Act) → a ≢ act.Goes → stop_of a ≢ stop.Goes
-not_goes act.Goes other = absurd (other refl)
-not_goes (act.Traps f) other = λ e. absurd cc
-not_goes act.Leaves other = λ e. absurd cc
-
--- the loop leaves the block and the base as they were
-same_registers : (r r' : Registers) → r'.block ≡ r.block → r'.base ≡ r.base
-    → r' ≡ record r { at = r'.at; top = r'.top; fuel = r'.fuel; line = r'.line }
-same_registers r r' e f =
-    ap (λ n. record { block = n; at = r'.at; base = r'.base; top = r'.top; fuel = r'.fuel; line = r'.line }) e
-    ∙ ap (λ n. record { block = r.block; at = r'.at; base = n; top = r'.top; fuel = r'.fuel; line = r'.line }) f
 
 stopped : (code : Code) (inputs : List ℤ) (m : Mode) (b : CodeBlock) (c : State ℕ) (s s' : Stop) (ws : List ℕ)
     (r r' : Registers) (seen : ℕ → ℕ) (root : ℕ → Option ℕ)
@@ -44,10 +25,22 @@ stopped : (code : Code) (inputs : List ℤ) (m : Mode) (b : CodeBlock) (c : Stat
 stopped code inputs m b c s s' ws r r' seen root e f h =
     subst (λ k. Ends code inputs m b c k ws r' seen root) e (subst (λ q. Ends code inputs m b c s ws q seen root) f h)
 
+-- notes that are off need no places, and stay off
+stay_off : (x y : Notes) (ms : List Mark) → x ≡ notes.Off → HasMarkedIfOn x y ms → y ≡ notes.Off
+stay_off notes.Off notes.Off ms e h = refl
+stay_off notes.Off (notes.On b) ms e h = absurd h
+stay_off (notes.On a) y ms e h = absurd (let z : notes.On a ≡ notes.Off = e in cc)
+
+pub act-requires-clause-places : goal.act-requires-clause-places
+act-requires-clause-places g c =
+    let v = c.loop-x.invariant in
+    subst (HasPlacesIfOn (g.P.Snapshot.size c.loop-x.memory.snapshot) c.args.inputs.now) (sym v.notes) tt
+
 pub loop-x-init : goal.loop-x-init
 loop-x-init g c = record {
   instrs = c.as_slice-instrs.ensures;
   next = c.fetch-x.ensures;
+  notes = refl;
   registers = refl;
   words = refl;
   ahead = λ m c0 here. record { now = c0; steps = step.none; here = here; same = all_same c0 };
@@ -139,6 +132,7 @@ loop-x-preserved g c =
     record {
       instrs = v.instrs;
       next = c.fetch-x-in-Goes.ensures;
+      notes = stay_off c.loop-x.notes c.act.new.notes _ v.notes e.marked;
       registers = v.registers;
       words = c.act.auto.words ∙ v.words;
       ahead = λ m c0 here.

@@ -7,6 +7,7 @@ use Rattle.version_map.specs.Overlay.{under}
 use Rattle.code_rules.specs.Pass.{is_value_class}
 use Rattle.block_run.specs.Remembering.{Kept}
 use Rattle.block_run.specs.Standing.{Mode, Here, Ahead, weight}
+use Rattle.block_run.specs.declared.notes.Notes.TheVariants as notes
 use Rattle.block_run.proofs.block.run_block.Given as goal
 
 -- each state for which the machine stood at first has steps to one for which it stands now
@@ -14,6 +15,7 @@ abbrev pub invariant-loop-x : goal.invariant-loop-x
 invariant-loop-x g l = record {
   instrs : l.instrs ≡ l.b.instrs;
   next : slice_get l.instrs l.r.at ≡ Some l.x;
+  notes : l.notes ≡ notes.Off;
   registers : l.registers ≡ l.initial.registers;
   words : length l.words ≡ length l.initial.words;
   ahead : (m : Mode) (c : State ℕ) → Here l.code l.inputs m l.b c l.initial.words l.initial.registers
