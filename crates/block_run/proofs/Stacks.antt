@@ -166,9 +166,9 @@ module _ (b : CodeBlock) (ws : List ℕ) (r : Registers) where
 
   pub run_popped_twice : low b r + 2 ≤ r.top
       → with_parts (suc r.at) r.fuel r.line (run_of b ws r).locals (drop 2 (run_of b ws r).stack)
-      ≡ run_of b ws (record r { at = r.at + 1; top = r.top - 2 })
+      ≡ run_of b ws (record r { at = r.at + 1; top = r.top - 1 - 1 })
   run_popped_twice found =
-      let height : r.top - low b r ≡ suc (suc (r.top - 2 - low b r)) = omega (arith, found) in
+      let height : r.top - low b r ≡ suc (suc (r.top - 1 - 1 - low b r)) = omega (arith, found) in
       run_is _ _ _ _ _ _ _ (one_more r.at) (stack_drop ws (low b r) _ _ height)
 
   -- the word on top into a local

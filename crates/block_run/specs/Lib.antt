@@ -3,6 +3,7 @@
 pub mod Remembering
 pub mod Area
 pub mod Stops
+pub mod Deeds
 pub mod Standing
 pub mod Plain
 pub mod Agreement

@@ -8,12 +8,15 @@ ghost use Rattle.block_run.specs.Agreement.{PushesInt};
 ghost use Rattle.version_map.specs.Deltas.{at};
 ghost use Rattle.version_map.specs.Overlay.{under};
 ghost use Rattle.block_run.specs.Remembering.{Kept, Wrote};
-ghost use Rattle.block_run.specs.Area.{count, pushes, run_of, taken, Does, IsAct, IsOperand};
+ghost use Rattle.block_run.specs.Area.{count, pushes, run_of, taken, Does, IsOperand};
 ghost use Rattle.block_run.specs.Area.{IsPlaced, IsTable, IsVariable, StaysIn};
+ghost use Rattle.block_run.specs.Deeds.{registers_after, run_after, stop_after, words_after};
+ghost use Rattle.block_run.specs.Deeds.{Fits, IsDeedOf};
 ghost use Rattle.block_run.specs.Marks.{plain_marks};
 ghost use Rattle.block_run.specs.Stops.{stop_of};
 ghost use Rattle.block_run.specs.WhereOn.{HasMarkedIfOn, HasPlacesIfOn};
 
+use crate::deed::{Deed, settle};
 use crate::marking::{note_count_input, note_load, note_load_cell, note_load_input};
 use crate::memory::Memory;
 use crate::notes::Notes;
@@ -64,17 +67,18 @@ fn act_load_shared<P: Snapshot>(
     code: &Code,
     b: &CodeBlock,
     memory: &mut Memory<P>,
-    words: &mut [u64],
-    r: &mut Registers,
+    words: &[u64],
+    r: &Registers,
     v: u16,
     t: Variable,
-) -> Act
-    requires placed { IsPlaced b.now r.old (length words.old) 0 }
-    requires room { r.old.top < length words.old }
+) -> Deed
+    requires placed { IsPlaced b.now r.now (length words.now) 0 }
+    requires room { r.now.top < length words.now }
     requires variable { IsVariable (scalar code.now.vars v) t (P.size memory.old.snapshot) }
     ensures does { Does (p.from_scalar (under memory.old.delta (P.base memory.old.snapshot))
-        (run_of b.now words.old r.old) (scalar code.now.vars v))
-        (run_of b.now words.old r.old) (run_of b.now words.new r.new) (stop_of result)
+        (run_of b.now words.now r.now) (scalar code.now.vars v))
+        (run_of b.now words.now r.now) (run_after b.now words.now r.now result)
+        (stop_after result)
         (Kept (P.size memory.old.snapshot)
         (under memory.old.delta (P.base memory.old.snapshot))
         (under memory.new.delta (P.base memory.new.snapshot))
@@ -83,7 +87,9 @@ fn act_load_shared<P: Snapshot>(
         (under memory.old.delta (P.base memory.old.snapshot))
         (under memory.new.delta (P.base memory.new.snapshot))
         (at memory.old.first.roots) (at memory.new.first.roots)) }
-    ensures stays { StaysIn b.now words.old words.new r.old r.new }
+    ensures stays { StaysIn b.now words.now (words_after result words.now r.now)
+        r.now (registers_after result r.now) }
+    ensures fits { Fits result (length words.now) r.now }
     ensures size { P.size memory.new.snapshot ≡ P.size memory.old.snapshot }
     ensures group { P.group memory.new.snapshot ≡ P.group memory.old.snapshot }
 {
@@ -98,15 +104,16 @@ fn act_store_shared<P: Snapshot>(
     b: &CodeBlock,
     memory: &mut Memory<P>,
     words: &[u64],
-    r: &mut Registers,
+    r: &Registers,
     v: u16,
     t: Variable,
-) -> Act
-    requires placed { IsPlaced b.now r.old (length words.now) 1 }
+) -> Deed
+    requires placed { IsPlaced b.now r.now (length words.now) 1 }
     requires variable { IsVariable (scalar code.now.vars v) t (P.size memory.old.snapshot) }
-    ensures does { Does (p.into_scalar (run_of b.now words.now r.old) (scalar code.now.vars v)
-        (run_of b.now words.now r.old).stack)
-        (run_of b.now words.now r.old) (run_of b.now words.now r.new) (stop_of result)
+    ensures does { Does (p.into_scalar (run_of b.now words.now r.now) (scalar code.now.vars v)
+        (run_of b.now words.now r.now).stack)
+        (run_of b.now words.now r.now) (run_after b.now words.now r.now result)
+        (stop_after result)
         (Kept (P.size memory.old.snapshot)
         (under memory.old.delta (P.base memory.old.snapshot))
         (under memory.new.delta (P.base memory.new.snapshot))
@@ -115,15 +122,15 @@ fn act_store_shared<P: Snapshot>(
         (under memory.old.delta (P.base memory.old.snapshot))
         (under memory.new.delta (P.base memory.new.snapshot))
         (at memory.old.first.roots) (at memory.new.first.roots)) }
-    ensures stays { StaysIn b.now words.now words.now r.old r.new }
+    ensures stays { StaysIn b.now words.now (words_after result words.now r.now)
+        r.now (registers_after result r.now) }
+    ensures fits { Fits result (length words.now) r.now }
     ensures size { P.size memory.new.snapshot ≡ P.size memory.old.snapshot }
     ensures group { P.group memory.new.snapshot ≡ P.group memory.old.snapshot }
 {
     let word = values::top(b, words, r);
     memory.write(t.first, word);
-    r.top -= 1;
-    r.at += 1;
-    Act::Goes
+    Deed::Takes
 }
 
 /// Puts a cell in place of its index.
@@ -132,17 +139,18 @@ fn act_load_cell<P: Snapshot>(
     code: &Code,
     b: &CodeBlock,
     memory: &mut Memory<P>,
-    words: &mut [u64],
-    r: &mut Registers,
+    words: &[u64],
+    r: &Registers,
     v: u16,
     t: Variable,
-) -> Act
-    requires placed { IsPlaced b.now r.old (length words.old) 1 }
+) -> Deed
+    requires placed { IsPlaced b.now r.now (length words.now) 1 }
     requires variable { IsVariable (array code.now.vars v) t (P.size memory.old.snapshot) }
     requires few { t.first + t.cells < 2 ^ 32 }
     ensures does { Does (p.from_cell (under memory.old.delta (P.base memory.old.snapshot))
-        (run_of b.now words.old r.old) (array code.now.vars v) (run_of b.now words.old r.old).stack)
-        (run_of b.now words.old r.old) (run_of b.now words.new r.new) (stop_of result)
+        (run_of b.now words.now r.now) (array code.now.vars v) (run_of b.now words.now r.now).stack)
+        (run_of b.now words.now r.now) (run_after b.now words.now r.now result)
+        (stop_after result)
         (Kept (P.size memory.old.snapshot)
         (under memory.old.delta (P.base memory.old.snapshot))
         (under memory.new.delta (P.base memory.new.snapshot))
@@ -151,12 +159,14 @@ fn act_load_cell<P: Snapshot>(
         (under memory.old.delta (P.base memory.old.snapshot))
         (under memory.new.delta (P.base memory.new.snapshot))
         (at memory.old.first.roots) (at memory.new.first.roots)) }
-    ensures stays { StaysIn b.now words.old words.new r.old r.new }
+    ensures stays { StaysIn b.now words.now (words_after result words.now r.now)
+        r.now (registers_after result r.now) }
+    ensures fits { Fits result (length words.now) r.now }
     ensures size { P.size memory.new.snapshot ≡ P.size memory.old.snapshot }
     ensures group { P.group memory.new.snapshot ≡ P.group memory.old.snapshot }
 {
     match cell(t, values::top(b, words, r)) {
-        None => Act::Traps(BlockTrap::Index),
+        None => Deed::Traps(BlockTrap::Index),
         Some(location) => {
             let word = memory.read(location);
             values::put(b, words, r, word)
@@ -174,13 +184,14 @@ fn act_store_cell<P: Snapshot>(
     r: &mut Registers,
     v: u16,
     t: Variable,
-) -> Act
+) -> Deed
     requires placed { IsPlaced b.now r.old (length words.now) 2 }
     requires variable { IsVariable (array code.now.vars v) t (P.size memory.old.snapshot) }
     requires few { t.first + t.cells < 2 ^ 32 }
     ensures does { Does (p.into_cell (run_of b.now words.now r.old) (array code.now.vars v)
         (run_of b.now words.now r.old).stack)
-        (run_of b.now words.now r.old) (run_of b.now words.now r.new) (stop_of result)
+        (run_of b.now words.now r.old) (run_after b.now words.now r.new result)
+        (stop_after result)
         (Kept (P.size memory.old.snapshot)
         (under memory.old.delta (P.base memory.old.snapshot))
         (under memory.new.delta (P.base memory.new.snapshot))
@@ -189,18 +200,19 @@ fn act_store_cell<P: Snapshot>(
         (under memory.old.delta (P.base memory.old.snapshot))
         (under memory.new.delta (P.base memory.new.snapshot))
         (at memory.old.first.roots) (at memory.new.first.roots)) }
-    ensures stays { StaysIn b.now words.now words.now r.old r.new }
+    ensures stays { StaysIn b.now words.now (words_after result words.now r.new)
+        r.old (registers_after result r.new) }
+    ensures fits { Fits result (length words.now) r.new }
     ensures size { P.size memory.new.snapshot ≡ P.size memory.old.snapshot }
     ensures group { P.group memory.new.snapshot ≡ P.group memory.old.snapshot }
 {
     let (index, word) = values::two(b, words, r);
     match cell(t, index) {
-        None => Act::Traps(BlockTrap::Index),
+        None => Deed::Traps(BlockTrap::Index),
         Some(location) => {
             memory.write(location, word);
-            r.top -= 2;
-            r.at += 1;
-            Act::Goes
+            r.top -= 1;
+            Deed::Takes
         },
     }
 }
@@ -211,30 +223,24 @@ fn act_check_cell(
     code: &Code,
     b: &CodeBlock,
     words: &[u64],
-    r: &mut Registers,
+    r: &Registers,
     v: u16,
     t: Variable,
-) -> Act
-    requires placed { IsPlaced b.now r.old (length words.now) 1 }
+) -> Deed
+    requires placed { IsPlaced b.now r.now (length words.now) 1 }
     requires variable { IsVariable (array code.now.vars v) t (count code.now.vars) }
     requires few { t.first + t.cells < 2 ^ 32 }
-    ensures { IsAct (p.over_cell (run_of b.now words.now r.old) (array code.now.vars v)
-        (run_of b.now words.now r.old).stack) b.now words.now words.now r.old r.new
-        (stop_of result) }
+    ensures { IsDeedOf (λ q stack. p.over_cell q (array code.now.vars v) stack) b.now words.now r.now result }
 {
     match cell(t, values::top(b, words, r)) {
-        None => Act::Traps(BlockTrap::Index),
-        Some(_) => {
-            r.at += 1;
-            Act::Goes
-        },
+        None => Deed::Traps(BlockTrap::Index),
+        Some(_) => Deed::Goes,
     }
 }
 
-/// Does one instruction of a block, unless it leaves the block or meets another revision. Where notes
-/// are on it notes what the instruction reads; only an instruction that reads looks whether they are.
+/// Does one instruction up to what it leaves to be done, and notes what `act` notes.
 #[inline(always)]
-pub fn act<P: Snapshot>(
+fn deed_of<P: Snapshot>(
     code: &Code,
     table: &[Variable],
     inputs: &[i64],
@@ -244,7 +250,7 @@ pub fn act<P: Snapshot>(
     r: &mut Registers,
     x: &Instr,
     notes: &mut Notes,
-) -> Act
+) -> Deed
     requires table { IsTable code.now.vars table.now }
     requires size { P.size memory.old.snapshot ≡ count code.now.vars }
     requires operand { IsOperand code.now.vars b.now x.now }
@@ -256,7 +262,8 @@ pub fn act<P: Snapshot>(
     ensures does { Does (p.plain code.now.vars inputs.now
         (under memory.old.delta (P.base memory.old.snapshot))
         (run_of b.now words.old r.old) x.now)
-        (run_of b.now words.old r.old) (run_of b.now words.new r.new) (stop_of result)
+        (run_of b.now words.old r.old) (run_after b.now words.new r.new result)
+        (stop_after result)
         (Kept (P.size memory.old.snapshot)
         (under memory.old.delta (P.base memory.old.snapshot))
         (under memory.new.delta (P.base memory.new.snapshot))
@@ -266,7 +273,9 @@ pub fn act<P: Snapshot>(
         (under memory.new.delta (P.base memory.new.snapshot))
         (at memory.old.first.roots) (at memory.new.first.roots)) }
     ensures int { PushesInt x.now }
-    ensures stays { StaysIn b.now words.old words.new r.old r.new }
+    ensures stays { StaysIn b.now words.old (words_after result words.new r.new) r.old
+        (registers_after result r.new) }
+    ensures fits { Fits result (length words.new) r.new }
     ensures size { P.size memory.new.snapshot ≡ P.size memory.old.snapshot }
     ensures group { P.group memory.new.snapshot ≡ P.group memory.old.snapshot }
 {
@@ -325,12 +334,55 @@ pub fn act<P: Snapshot>(
         Instr::Charge(line) => values::act_charge(b, words, r, line),
         Instr::Assert => values::act_assert(b, words, r),
         Instr::Pop => values::act_pop(b, words, r),
-        Instr::Apply(_) => Act::Leaves,
-        Instr::Call(_) => Act::Leaves,
-        Instr::Fork(_) => Act::Leaves,
-        Instr::Join => Act::Leaves,
-        Instr::Print(_) => Act::Leaves,
-        Instr::Return => Act::Leaves,
-        Instr::TryJoin => Act::Leaves,
+        Instr::Apply(_) => Deed::Leaves,
+        Instr::Call(_) => Deed::Leaves,
+        Instr::Fork(_) => Deed::Leaves,
+        Instr::Join => Deed::Leaves,
+        Instr::Print(_) => Deed::Leaves,
+        Instr::Return => Deed::Leaves,
+        Instr::TryJoin => Deed::Leaves,
     }
+}
+
+/// Does one instruction of a block, unless it leaves the block or meets another revision. Where notes
+/// are on it notes what the instruction reads; only an instruction that reads looks whether they are.
+#[inline(always)]
+pub fn act<P: Snapshot>(
+    code: &Code,
+    table: &[Variable],
+    inputs: &[i64],
+    b: &CodeBlock,
+    memory: &mut Memory<P>,
+    words: &mut [u64],
+    r: &mut Registers,
+    x: &Instr,
+    notes: &mut Notes,
+) -> Act
+    requires table { IsTable code.now.vars table.now }
+    requires size { P.size memory.old.snapshot ≡ count code.now.vars }
+    requires operand { IsOperand code.now.vars b.now x.now }
+    requires placed { IsPlaced b.now r.old (length words.old) (taken x.now) }
+    requires room { r.old.top + pushes x.now ≤ length words.old }
+    requires places { HasPlacesIfOn (P.size memory.old.snapshot) inputs.now notes.old }
+    ensures marked { HasMarkedIfOn notes.old notes.new (plain_marks code.now.vars inputs.now
+        (at memory.old.first.roots) (run_of b.now words.old r.old) x.now) }
+    ensures does { Does (p.plain code.now.vars inputs.now
+        (under memory.old.delta (P.base memory.old.snapshot))
+        (run_of b.now words.old r.old) x.now)
+        (run_of b.now words.old r.old) (run_of b.now words.new r.new) (stop_of result)
+        (Kept (P.size memory.old.snapshot)
+        (under memory.old.delta (P.base memory.old.snapshot))
+        (under memory.new.delta (P.base memory.new.snapshot))
+        (at memory.old.first.roots) (at memory.new.first.roots))
+        (Wrote (P.size memory.old.snapshot)
+        (under memory.old.delta (P.base memory.old.snapshot))
+        (under memory.new.delta (P.base memory.new.snapshot))
+        (at memory.old.first.roots) (at memory.new.first.roots)) }
+    ensures int { PushesInt x.now }
+    ensures stays { StaysIn b.now words.old words.new r.old r.new }
+    ensures size { P.size memory.new.snapshot ≡ P.size memory.old.snapshot }
+    ensures group { P.group memory.new.snapshot ≡ P.group memory.old.snapshot }
+{
+    let deed = deed_of(code, table, inputs, b, memory, words, r, x, notes);
+    settle(words, r, deed)
 }

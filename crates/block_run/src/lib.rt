@@ -2,6 +2,7 @@
 #![tactic(auto)]
 
 mod block;
+mod deed;
 mod instruction;
 mod marking;
 mod memory;

@@ -1,4 +1,4 @@
-//! Instructions that neither read nor write a location.
+//! Instructions that neither read nor write a location, each up to what it leaves to be done.
 
 ghost use Rattle.std.specs.Prelude.{◌≡◌, ◌+◌, ◌-◌, ◌<◌, ◌∷◌, drop, length, not};
 ghost use Rattle.std.specs.Prelude.{false, int_lt, int_le, slice_get, Some, true};
@@ -6,10 +6,12 @@ ghost use Rattle.rev_num.specs.Arith.{sum_of, difference_of, product_of, quotien
 ghost use Rattle.rev_num.specs.Arith.{remainder_of, negation_of};
 ghost use Rattle.rev_code.specs.Step as step;
 ghost use Rattle.block_run.specs.Plain as p;
-ghost use Rattle.block_run.specs.Area.{IsAct, IsPlaced, run_of};
-ghost use Rattle.block_run.specs.Stops.{cause_of, stop_of};
+ghost use Rattle.block_run.specs.Area.{IsPlaced, run_of};
+ghost use Rattle.block_run.specs.Deeds.{IsDeed, IsDeedOf};
+ghost use Rattle.block_run.specs.Stops.{cause_of};
 
-use crate::registers::{Act, BlockTrap, Registers};
+use crate::deed::Deed;
+use crate::registers::{BlockTrap, Registers};
 use rev_code::CodeBlock;
 use rev_num::{NumFault, add, div, int_of_word, mul, neg, rem, sub, word_of_int};
 
@@ -24,44 +26,30 @@ fn fault_of(fault: NumFault) -> BlockTrap
 
 /// Puts a word on the stack.
 #[inline(always)]
-pub fn push(b: &CodeBlock, words: &mut [u64], r: &mut Registers, word: u64) -> Act
-    requires placed { IsPlaced b.now r.old (length words.old) 0 }
-    requires room { r.old.top < length words.old }
-    ensures { IsAct (p.on (run_of b.now words.old r.old) (word ∷
-        (run_of b.now words.old r.old).stack))
-        b.now words.old words.new r.old r.new (stop_of result) }
+pub fn push(b: &CodeBlock, words: &[u64], r: &Registers, word: u64) -> Deed
+    requires placed { IsPlaced b.now r.now (length words.now) 0 }
+    requires room { r.now.top < length words.now }
+    ensures { IsDeedOf (λ q stack. p.on q (word ∷ stack)) b.now words.now r.now result }
 {
-    words[r.top] = word;
-    r.top += 1;
-    r.at += 1;
-    Act::Goes
+    Deed::Pushes(word)
 }
 
 /// Puts a word in place of the one on top.
 #[inline(always)]
-pub fn put(b: &CodeBlock, words: &mut [u64], r: &mut Registers, word: u64) -> Act
-    requires placed { IsPlaced b.now r.old (length words.old) 1 }
-    ensures { IsAct (p.on (run_of b.now words.old r.old) (word ∷ drop 1
-        (run_of b.now words.old r.old).stack))
-        b.now words.old words.new r.old r.new (stop_of result) }
+pub fn put(b: &CodeBlock, words: &[u64], r: &Registers, word: u64) -> Deed
+    requires placed { IsPlaced b.now r.now (length words.now) 1 }
+    ensures { IsDeedOf (λ q stack. p.on q (word ∷ drop 1 stack)) b.now words.now r.now result }
 {
-    words[r.top - 1] = word;
-    r.at += 1;
-    Act::Goes
+    Deed::Puts(word)
 }
 
 /// Puts a word in place of the two on top.
 #[inline(always)]
-fn put_two(b: &CodeBlock, words: &mut [u64], r: &mut Registers, word: u64) -> Act
-    requires placed { IsPlaced b.now r.old (length words.old) 2 }
-    ensures { IsAct (p.on (run_of b.now words.old r.old) (word ∷ drop 2
-        (run_of b.now words.old r.old).stack))
-        b.now words.old words.new r.old r.new (stop_of result) }
+fn put_two(b: &CodeBlock, words: &[u64], r: &Registers, word: u64) -> Deed
+    requires placed { IsPlaced b.now r.now (length words.now) 2 }
+    ensures { IsDeedOf (λ q stack. p.on q (word ∷ drop 2 stack)) b.now words.now r.now result }
 {
-    words[r.top - 2] = word;
-    r.top -= 1;
-    r.at += 1;
-    Act::Goes
+    Deed::PutsTwo(word)
 }
 
 /// The word on top.
@@ -86,25 +74,21 @@ pub fn two(b: &CodeBlock, words: &[u64], r: &Registers) -> (u64, u64)
 
 /// A number in place of the two words on top, or why there is none.
 #[inline(always)]
-fn number(b: &CodeBlock, words: &mut [u64], r: &mut Registers, v: Result<i64, NumFault>) -> Act
-    requires placed { IsPlaced b.now r.old (length words.old) 2 }
-    ensures { IsAct (p.number (run_of b.now words.old r.old) (drop 2
-        (run_of b.now words.old r.old).stack) v)
-        b.now words.old words.new r.old r.new (stop_of result) }
+fn number(b: &CodeBlock, words: &[u64], r: &Registers, v: Result<i64, NumFault>) -> Deed
+    requires placed { IsPlaced b.now r.now (length words.now) 2 }
+    ensures { IsDeedOf (λ q stack. p.number q (drop 2 stack) v) b.now words.now r.now result }
 {
     match v {
         Ok(z) => put_two(b, words, r, word_of_int(z)),
-        Err(fault) => Act::Traps(fault_of(fault)),
+        Err(fault) => Deed::Traps(fault_of(fault)),
     }
 }
 
 /// The sum.
 #[inline(always)]
-pub fn act_add(b: &CodeBlock, words: &mut [u64], r: &mut Registers) -> Act
-    requires placed { IsPlaced b.now r.old (length words.old) 2 }
-    ensures { IsAct (p.of_ints sum_of (run_of b.now words.old r.old)
-        (run_of b.now words.old r.old).stack)
-        b.now words.old words.new r.old r.new (stop_of result) }
+pub fn act_add(b: &CodeBlock, words: &[u64], r: &Registers) -> Deed
+    requires placed { IsPlaced b.now r.now (length words.now) 2 }
+    ensures { IsDeedOf (p.of_ints sum_of) b.now words.now r.now result }
 {
     let (x, y) = two(b, words, r);
     number(b, words, r, add(int_of_word(x), int_of_word(y)))
@@ -112,11 +96,9 @@ pub fn act_add(b: &CodeBlock, words: &mut [u64], r: &mut Registers) -> Act
 
 /// The difference.
 #[inline(always)]
-pub fn act_sub(b: &CodeBlock, words: &mut [u64], r: &mut Registers) -> Act
-    requires placed { IsPlaced b.now r.old (length words.old) 2 }
-    ensures { IsAct (p.of_ints difference_of (run_of b.now words.old r.old)
-        (run_of b.now words.old r.old).stack)
-        b.now words.old words.new r.old r.new (stop_of result) }
+pub fn act_sub(b: &CodeBlock, words: &[u64], r: &Registers) -> Deed
+    requires placed { IsPlaced b.now r.now (length words.now) 2 }
+    ensures { IsDeedOf (p.of_ints difference_of) b.now words.now r.now result }
 {
     let (x, y) = two(b, words, r);
     number(b, words, r, sub(int_of_word(x), int_of_word(y)))
@@ -124,11 +106,9 @@ pub fn act_sub(b: &CodeBlock, words: &mut [u64], r: &mut Registers) -> Act
 
 /// The product.
 #[inline(always)]
-pub fn act_mul(b: &CodeBlock, words: &mut [u64], r: &mut Registers) -> Act
-    requires placed { IsPlaced b.now r.old (length words.old) 2 }
-    ensures { IsAct (p.of_ints product_of (run_of b.now words.old r.old)
-        (run_of b.now words.old r.old).stack)
-        b.now words.old words.new r.old r.new (stop_of result) }
+pub fn act_mul(b: &CodeBlock, words: &[u64], r: &Registers) -> Deed
+    requires placed { IsPlaced b.now r.now (length words.now) 2 }
+    ensures { IsDeedOf (p.of_ints product_of) b.now words.now r.now result }
 {
     let (x, y) = two(b, words, r);
     number(b, words, r, mul(int_of_word(x), int_of_word(y)))
@@ -136,11 +116,9 @@ pub fn act_mul(b: &CodeBlock, words: &mut [u64], r: &mut Registers) -> Act
 
 /// The quotient.
 #[inline(always)]
-pub fn act_div(b: &CodeBlock, words: &mut [u64], r: &mut Registers) -> Act
-    requires placed { IsPlaced b.now r.old (length words.old) 2 }
-    ensures { IsAct (p.of_ints quotient_of (run_of b.now words.old r.old)
-        (run_of b.now words.old r.old).stack)
-        b.now words.old words.new r.old r.new (stop_of result) }
+pub fn act_div(b: &CodeBlock, words: &[u64], r: &Registers) -> Deed
+    requires placed { IsPlaced b.now r.now (length words.now) 2 }
+    ensures { IsDeedOf (p.of_ints quotient_of) b.now words.now r.now result }
 {
     let (x, y) = two(b, words, r);
     number(b, words, r, div(int_of_word(x), int_of_word(y)))
@@ -148,11 +126,9 @@ pub fn act_div(b: &CodeBlock, words: &mut [u64], r: &mut Registers) -> Act
 
 /// The remainder.
 #[inline(always)]
-pub fn act_rem(b: &CodeBlock, words: &mut [u64], r: &mut Registers) -> Act
-    requires placed { IsPlaced b.now r.old (length words.old) 2 }
-    ensures { IsAct (p.of_ints remainder_of (run_of b.now words.old r.old)
-        (run_of b.now words.old r.old).stack)
-        b.now words.old words.new r.old r.new (stop_of result) }
+pub fn act_rem(b: &CodeBlock, words: &[u64], r: &Registers) -> Deed
+    requires placed { IsPlaced b.now r.now (length words.now) 2 }
+    ensures { IsDeedOf (p.of_ints remainder_of) b.now words.now r.now result }
 {
     let (x, y) = two(b, words, r);
     number(b, words, r, rem(int_of_word(x), int_of_word(y)))
@@ -160,15 +136,13 @@ pub fn act_rem(b: &CodeBlock, words: &mut [u64], r: &mut Registers) -> Act
 
 /// The negation.
 #[inline(always)]
-pub fn act_neg(b: &CodeBlock, words: &mut [u64], r: &mut Registers) -> Act
-    requires placed { IsPlaced b.now r.old (length words.old) 1 }
-    ensures { IsAct (p.of_int negation_of (run_of b.now words.old r.old)
-        (run_of b.now words.old r.old).stack)
-        b.now words.old words.new r.old r.new (stop_of result) }
+pub fn act_neg(b: &CodeBlock, words: &[u64], r: &Registers) -> Deed
+    requires placed { IsPlaced b.now r.now (length words.now) 1 }
+    ensures { IsDeedOf (p.of_int negation_of) b.now words.now r.now result }
 {
     match neg(int_of_word(top(b, words, r))) {
         Ok(z) => put(b, words, r, word_of_int(z)),
-        Err(fault) => Act::Traps(fault_of(fault)),
+        Err(fault) => Deed::Traps(fault_of(fault)),
     }
 }
 
@@ -182,10 +156,9 @@ fn flag(holds: bool) -> u64
 
 /// The other truth value.
 #[inline(always)]
-pub fn act_not(b: &CodeBlock, words: &mut [u64], r: &mut Registers) -> Act
-    requires placed { IsPlaced b.now r.old (length words.old) 1 }
-    ensures { IsAct (p.of_bool (run_of b.now words.old r.old) (run_of b.now words.old r.old).stack)
-        b.now words.old words.new r.old r.new (stop_of result) }
+pub fn act_not(b: &CodeBlock, words: &[u64], r: &Registers) -> Deed
+    requires placed { IsPlaced b.now r.now (length words.now) 1 }
+    ensures { IsDeedOf p.of_bool b.now words.now r.now result }
 {
     let word = top(b, words, r);
     put(b, words, r, flag(word == 0))
@@ -193,11 +166,9 @@ pub fn act_not(b: &CodeBlock, words: &mut [u64], r: &mut Registers) -> Act
 
 /// Whether the two words on top are equal.
 #[inline(always)]
-pub fn act_eq(b: &CodeBlock, words: &mut [u64], r: &mut Registers) -> Act
-    requires placed { IsPlaced b.now r.old (length words.old) 2 }
-    ensures { IsAct (p.equality (λ same. same) (run_of b.now words.old r.old)
-        (run_of b.now words.old r.old).stack)
-        b.now words.old words.new r.old r.new (stop_of result) }
+pub fn act_eq(b: &CodeBlock, words: &[u64], r: &Registers) -> Deed
+    requires placed { IsPlaced b.now r.now (length words.now) 2 }
+    ensures { IsDeedOf (p.equality (λ same. same)) b.now words.now r.now result }
 {
     let (x, y) = two(b, words, r);
     put_two(b, words, r, flag(x == y))
@@ -205,11 +176,9 @@ pub fn act_eq(b: &CodeBlock, words: &mut [u64], r: &mut Registers) -> Act
 
 /// Whether the two words on top differ.
 #[inline(always)]
-pub fn act_ne(b: &CodeBlock, words: &mut [u64], r: &mut Registers) -> Act
-    requires placed { IsPlaced b.now r.old (length words.old) 2 }
-    ensures { IsAct (p.equality not (run_of b.now words.old r.old)
-        (run_of b.now words.old r.old).stack)
-        b.now words.old words.new r.old r.new (stop_of result) }
+pub fn act_ne(b: &CodeBlock, words: &[u64], r: &Registers) -> Deed
+    requires placed { IsPlaced b.now r.now (length words.now) 2 }
+    ensures { IsDeedOf (p.equality not) b.now words.now r.now result }
 {
     let (x, y) = two(b, words, r);
     put_two(b, words, r, flag(x != y))
@@ -217,11 +186,9 @@ pub fn act_ne(b: &CodeBlock, words: &mut [u64], r: &mut Registers) -> Act
 
 /// Whether the lower number is less than the upper one.
 #[inline(always)]
-pub fn act_lt(b: &CodeBlock, words: &mut [u64], r: &mut Registers) -> Act
-    requires placed { IsPlaced b.now r.old (length words.old) 2 }
-    ensures { IsAct (p.order int_lt (run_of b.now words.old r.old)
-        (run_of b.now words.old r.old).stack)
-        b.now words.old words.new r.old r.new (stop_of result) }
+pub fn act_lt(b: &CodeBlock, words: &[u64], r: &Registers) -> Deed
+    requires placed { IsPlaced b.now r.now (length words.now) 2 }
+    ensures { IsDeedOf (p.order int_lt) b.now words.now r.now result }
 {
     let (x, y) = two(b, words, r);
     put_two(b, words, r, flag(int_of_word(x) < int_of_word(y)))
@@ -229,11 +196,9 @@ pub fn act_lt(b: &CodeBlock, words: &mut [u64], r: &mut Registers) -> Act
 
 /// Whether the lower number is not more than the upper one.
 #[inline(always)]
-pub fn act_le(b: &CodeBlock, words: &mut [u64], r: &mut Registers) -> Act
-    requires placed { IsPlaced b.now r.old (length words.old) 2 }
-    ensures { IsAct (p.order int_le (run_of b.now words.old r.old)
-        (run_of b.now words.old r.old).stack)
-        b.now words.old words.new r.old r.new (stop_of result) }
+pub fn act_le(b: &CodeBlock, words: &[u64], r: &Registers) -> Deed
+    requires placed { IsPlaced b.now r.now (length words.now) 2 }
+    ensures { IsDeedOf (p.order int_le) b.now words.now r.now result }
 {
     let (x, y) = two(b, words, r);
     put_two(b, words, r, flag(int_of_word(x) <= int_of_word(y)))
@@ -241,11 +206,9 @@ pub fn act_le(b: &CodeBlock, words: &mut [u64], r: &mut Registers) -> Act
 
 /// Whether the lower number is more than the upper one.
 #[inline(always)]
-pub fn act_gt(b: &CodeBlock, words: &mut [u64], r: &mut Registers) -> Act
-    requires placed { IsPlaced b.now r.old (length words.old) 2 }
-    ensures { IsAct (p.order (λ x y. int_lt y x) (run_of b.now words.old r.old)
-        (run_of b.now words.old r.old).stack)
-        b.now words.old words.new r.old r.new (stop_of result) }
+pub fn act_gt(b: &CodeBlock, words: &[u64], r: &Registers) -> Deed
+    requires placed { IsPlaced b.now r.now (length words.now) 2 }
+    ensures { IsDeedOf (p.order (λ x y. int_lt y x)) b.now words.now r.now result }
 {
     let (x, y) = two(b, words, r);
     put_two(b, words, r, flag(int_of_word(x) > int_of_word(y)))
@@ -253,11 +216,9 @@ pub fn act_gt(b: &CodeBlock, words: &mut [u64], r: &mut Registers) -> Act
 
 /// Whether the lower number is not less than the upper one.
 #[inline(always)]
-pub fn act_ge(b: &CodeBlock, words: &mut [u64], r: &mut Registers) -> Act
-    requires placed { IsPlaced b.now r.old (length words.old) 2 }
-    ensures { IsAct (p.order (λ x y. int_le y x) (run_of b.now words.old r.old)
-        (run_of b.now words.old r.old).stack)
-        b.now words.old words.new r.old r.new (stop_of result) }
+pub fn act_ge(b: &CodeBlock, words: &[u64], r: &Registers) -> Deed
+    requires placed { IsPlaced b.now r.now (length words.now) 2 }
+    ensures { IsDeedOf (p.order (λ x y. int_le y x)) b.now words.now r.now result }
 {
     let (x, y) = two(b, words, r);
     put_two(b, words, r, flag(int_of_word(x) >= int_of_word(y)))
@@ -265,13 +226,11 @@ pub fn act_ge(b: &CodeBlock, words: &mut [u64], r: &mut Registers) -> Act
 
 /// Puts a local on the stack.
 #[inline(always)]
-pub fn act_load(b: &CodeBlock, words: &mut [u64], r: &mut Registers, n: u8) -> Act
-    requires placed { IsPlaced b.now r.old (length words.old) 0 }
-    requires room { r.old.top < length words.old }
+pub fn act_load(b: &CodeBlock, words: &[u64], r: &Registers, n: u8) -> Deed
+    requires placed { IsPlaced b.now r.now (length words.now) 0 }
+    requires room { r.now.top < length words.now }
     requires local { n < length b.now.locals }
-    ensures { IsAct (p.pushes (run_of b.now words.old r.old) (run_of b.now words.old r.old).stack
-        (slice_get (run_of b.now words.old r.old).locals n))
-        b.now words.old words.new r.old r.new (stop_of result) }
+    ensures { IsDeedOf (λ q stack. p.pushes q stack (slice_get q.locals n)) b.now words.now r.now result }
 {
     let word = local(b, words, r, n);
     push(b, words, r, word)
@@ -289,126 +248,115 @@ fn local(b: &CodeBlock, words: &[u64], r: &Registers, n: u8) -> u64
 
 /// Takes the word on top into a local.
 #[inline(always)]
-pub fn act_store(b: &CodeBlock, words: &mut [u64], r: &mut Registers, n: u8) -> Act
+pub fn act_store(b: &CodeBlock, words: &mut [u64], r: &mut Registers, n: u8) -> Deed
     requires placed { IsPlaced b.now r.old (length words.old) 1 }
     requires local { n < length b.now.locals }
-    ensures { IsAct (p.into_local (run_of b.now words.old r.old) n
+    ensures { IsDeed (p.into_local (run_of b.now words.old r.old) n
         (run_of b.now words.old r.old).stack)
-        b.now words.old words.new r.old r.new (stop_of result) }
+        b.now words.old words.new r.old r.new result }
 {
     let word = words[r.top - 1];
     words[r.base + n as usize] = word;
-    r.top -= 1;
-    r.at += 1;
-    Act::Goes
+    Deed::Takes
 }
 
 /// Jumps.
 #[inline(always)]
-pub fn act_jump(b: &CodeBlock, words: &[u64], r: &mut Registers, to: u32) -> Act
-    requires placed { IsPlaced b.now r.old (length words.now) 0 }
-    ensures { IsAct (p.moves (record (run_of b.now words.now r.old) { at = to }))
-        b.now words.now words.now r.old r.new (stop_of result) }
+pub fn act_jump(b: &CodeBlock, words: &[u64], r: &Registers, to: u32) -> Deed
+    requires placed { IsPlaced b.now r.now (length words.now) 0 }
+    ensures { IsDeedOf (λ q stack. p.moves (record q { at = to })) b.now words.now r.now result }
 {
-    r.at = to;
-    Act::Goes
+    Deed::Jumps(to)
 }
 
 /// Takes the word on top, and jumps where it is `false`.
 #[inline(always)]
-pub fn act_jump_if_false(b: &CodeBlock, words: &[u64], r: &mut Registers, to: u32) -> Act
+pub fn act_jump_if_false(b: &CodeBlock, words: &[u64], r: &mut Registers, to: u32) -> Deed
     requires placed { IsPlaced b.now r.old (length words.now) 1 }
-    ensures { IsAct (p.jump_if false to (run_of b.now words.now r.old)
+    ensures { IsDeed (p.jump_if false to (run_of b.now words.now r.old)
         (run_of b.now words.now r.old).stack)
-        b.now words.now words.now r.old r.new (stop_of result) }
+        b.now words.now words.now r.old r.new result }
 {
     let word = top(b, words, r);
+    if word != 0 {
+        return Deed::Takes;
+    }
     r.top -= 1;
-    r.at = if word == 0 { to } else { r.at + 1 };
-    Act::Goes
+    Deed::Jumps(to)
 }
 
 /// Takes the word on top, and jumps where it is `true`.
 #[inline(always)]
-pub fn act_jump_if_true(b: &CodeBlock, words: &[u64], r: &mut Registers, to: u32) -> Act
+pub fn act_jump_if_true(b: &CodeBlock, words: &[u64], r: &mut Registers, to: u32) -> Deed
     requires placed { IsPlaced b.now r.old (length words.now) 1 }
-    ensures { IsAct (p.jump_if true to (run_of b.now words.now r.old)
+    ensures { IsDeed (p.jump_if true to (run_of b.now words.now r.old)
         (run_of b.now words.now r.old).stack)
-        b.now words.now words.now r.old r.new (stop_of result) }
+        b.now words.now words.now r.old r.new result }
 {
     let word = top(b, words, r);
+    if word == 0 {
+        return Deed::Takes;
+    }
     r.top -= 1;
-    r.at = if word == 0 { r.at + 1 } else { to };
-    Act::Goes
+    Deed::Jumps(to)
 }
 
 /// Pays 1 for a statement and sets its line, or traps where no fuel is left.
 #[inline(always)]
-pub fn act_charge(b: &CodeBlock, words: &[u64], r: &mut Registers, line: u32) -> Act
+pub fn act_charge(b: &CodeBlock, words: &[u64], r: &mut Registers, line: u32) -> Deed
     requires placed { IsPlaced b.now r.old (length words.now) 0 }
-    ensures { IsAct (p.charge (run_of b.now words.now r.old) line r.old.fuel)
-        b.now words.now words.now r.old r.new (stop_of result) }
+    ensures { IsDeed (p.charge (run_of b.now words.now r.old) line r.old.fuel)
+        b.now words.now words.now r.old r.new result }
 {
     r.line = line;
     if r.fuel == 0 {
-        return Act::Traps(BlockTrap::Spent);
+        return Deed::Traps(BlockTrap::Spent);
     }
     r.fuel -= 1;
-    r.at += 1;
-    Act::Goes
+    Deed::Goes
 }
 
 /// Traps where the word on top is not `true`.
 #[inline(always)]
-pub fn act_assert(b: &CodeBlock, words: &[u64], r: &mut Registers) -> Act
-    requires placed { IsPlaced b.now r.old (length words.now) 1 }
-    ensures { IsAct (p.assert (run_of b.now words.now r.old) (run_of b.now words.now r.old).stack)
-        b.now words.now words.now r.old r.new (stop_of result) }
+pub fn act_assert(b: &CodeBlock, words: &[u64], r: &Registers) -> Deed
+    requires placed { IsPlaced b.now r.now (length words.now) 1 }
+    ensures { IsDeedOf p.assert b.now words.now r.now result }
 {
     if top(b, words, r) == 0 {
-        return Act::Traps(BlockTrap::Assert);
+        return Deed::Traps(BlockTrap::Assert);
     }
-    r.top -= 1;
-    r.at += 1;
-    Act::Goes
+    Deed::Takes
 }
 
 /// Takes the word on top.
 #[inline(always)]
-pub fn act_pop(b: &CodeBlock, words: &[u64], r: &mut Registers) -> Act
-    requires placed { IsPlaced b.now r.old (length words.now) 1 }
-    ensures { IsAct (p.pop (run_of b.now words.now r.old) (run_of b.now words.now r.old).stack)
-        b.now words.now words.now r.old r.new (stop_of result) }
+pub fn act_pop(b: &CodeBlock, words: &[u64], r: &Registers) -> Deed
+    requires placed { IsPlaced b.now r.now (length words.now) 1 }
+    ensures { IsDeedOf p.pop b.now words.now r.now result }
 {
-    r.top -= 1;
-    r.at += 1;
-    Act::Goes
+    Deed::Takes
 }
 
 /// Puts the number at a position of the input in its place.
 #[inline(always)]
-pub fn act_load_input(b: &CodeBlock, words: &mut [u64], r: &mut Registers, inputs: &[i64]) -> Act
-    requires placed { IsPlaced b.now r.old (length words.old) 1 }
-    ensures { IsAct (p.from_input inputs.now (run_of b.now words.old r.old)
-        (run_of b.now words.old r.old).stack)
-        b.now words.old words.new r.old r.new (stop_of result) }
+pub fn act_load_input(b: &CodeBlock, words: &[u64], r: &Registers, inputs: &[i64]) -> Deed
+    requires placed { IsPlaced b.now r.now (length words.now) 1 }
+    ensures { IsDeedOf (p.from_input inputs.now) b.now words.now r.now result }
 {
     let at = top(b, words, r);
     if at < inputs.len() as u64 {
         let z = inputs[at as usize];
         return put(b, words, r, word_of_int(z));
     }
-    Act::Traps(BlockTrap::Index)
+    Deed::Traps(BlockTrap::Index)
 }
 
 /// Puts the number of inputs on the stack.
 #[inline(always)]
-pub fn act_count_input(b: &CodeBlock, words: &mut [u64], r: &mut Registers, inputs: &[i64]) -> Act
-    requires placed { IsPlaced b.now r.old (length words.old) 0 }
-    requires room { r.old.top < length words.old }
-    ensures { IsAct (p.on (run_of b.now words.old r.old) (length inputs.now ∷
-        (run_of b.now words.old r.old).stack))
-        b.now words.old words.new r.old r.new (stop_of result) }
+pub fn act_count_input(b: &CodeBlock, words: &[u64], r: &Registers, inputs: &[i64]) -> Deed
+    requires placed { IsPlaced b.now r.now (length words.now) 0 }
+    requires room { r.now.top < length words.now }
+    ensures { IsDeedOf (λ q stack. p.on q (length inputs.now ∷ stack)) b.now words.now r.now result }
 {
     push(b, words, r, inputs.len() as u64)
 }
