@@ -19,7 +19,7 @@ use Rattle.hub_core.specs.Rule.{OutsAre, AreOfGroup, SoundFrom, Turned}
 use Rattle.hub_core.proofs.Keeps.{starts}
 
 module _ {L R A E : Type 0} (d : HubMachine L R A E) (ends : E → L → Type 0) where
-  one_ready : (c : R) → OutsAre {R = R} {A = A} {E = E} (Ready c ∷ []) []
+  pub one_ready : (c : R) → OutsAre {R = R} {A = A} {E = E} (Ready c ∷ []) []
   one_ready c zero = refl
   one_ready c (suc n) = refl
 

@@ -43,7 +43,7 @@ module _ {R A E : Type 0} where
   is_out_one (Some Gone) h = absurd (omega arith)
 
   -- one more status that is no seat's
-  outs_more : (slots : List (Status R A E)) (s : Status R A E) (n : ℕ) → is_out (Some s) ≡ 0
+  pub outs_more : (slots : List (Status R A E)) (s : Status R A E) (n : ℕ) → is_out (Some s) ≡ 0
       → is_out (at_number (slots ++ s ∷ []) n) ≡ is_out (at_number slots n)
   outs_more [] s zero e = e
   outs_more [] s (suc n) e = refl
@@ -70,7 +70,7 @@ module _ {R A E : Type 0} where
   all_ended (Gone ∷ slots) (suc n) s o e = all_ended slots n s o e
 
   -- a number that seats don't have is drawn
-  outs_draw : (slots : List (Status R A E)) (out : List ℕ) (n : ℕ) (s : Status R A E) → OutsAre slots out
+  pub outs_draw : (slots : List (Status R A E)) (out : List ℕ) (n : ℕ) (s : Status R A E) → OutsAre slots out
       → at_number slots n ≡ Some s → is_out (Some s) ≡ 0 → OutsAre (put_number slots n Out) (n ∷ out)
   outs_draw slots out n s outs e none j = let o = outs j in dite (ℕ_discrete j n)
       (λ is.
@@ -86,7 +86,7 @@ module _ {R A E : Type 0} where
       omega arith)
 
   -- a number is handed in
-  outs_in : (slots : List (Status R A E)) (out : List ℕ) (n : ℕ) (s : Status R A E) → OutsAre slots out
+  pub outs_in : (slots : List (Status R A E)) (out : List ℕ) (n : ℕ) (s : Status R A E) → OutsAre slots out
       → at_number slots n ≡ Some Out → is_out (Some s) ≡ 0 → OutsAre (put_number slots n s) (without n out)
   outs_in slots out n s outs e none j = let o = outs j in dite (ℕ_discrete j n)
       (λ is.
@@ -101,7 +101,7 @@ module _ {R A E : Type 0} where
       omega arith)
 
   -- another status of a number that no seat has, before and after
-  outs_turn : (slots : List (Status R A E)) (out : List ℕ) (n : ℕ) (x s : Status R A E) → OutsAre slots out
+  pub outs_turn : (slots : List (Status R A E)) (out : List ℕ) (n : ℕ) (x s : Status R A E) → OutsAre slots out
       → at_number slots n ≡ Some x → is_out (Some x) ≡ 0 → is_out (Some s) ≡ 0 → OutsAre (put_number slots n s) out
   outs_turn slots out n x s outs e was none j = dite (ℕ_discrete j n)
       (λ is. outs j

@@ -17,3 +17,9 @@ pub mod Passes
 pub mod Views
 pub mod Rule
 pub mod Seats
+pub mod Rounds
+pub mod Tally
+pub mod TallySteps
+pub mod Recorded
+pub mod Journaled
+pub mod Woven

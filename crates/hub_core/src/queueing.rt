@@ -29,7 +29,7 @@ pub fn marked(mark: u64) -> u64
 }
 
 // So many lists, of which there is at most one too few.
-fn cover(waiters: &mut Vec<Option<Chain>>, many: usize)
+pub fn cover(waiters: &mut Vec<Option<Chain>>, many: usize)
     requires few { many ≤ length waiters.old.items + 1 }
     requires room { vec_len waiters.old < vec_capacity waiters.old }
     ensures reach { many ≤ length waiters.new.items }

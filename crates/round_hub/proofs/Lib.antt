@@ -1,0 +1,25 @@
+-- Proofs of round_hub: the hub that threads share, on a turn and a tally.
+pub mod Homes
+pub mod Taking
+pub mod Values
+pub mod Finding
+pub mod Afters
+pub mod Halting
+pub mod Ends
+pub mod Lending
+pub mod Settles
+pub mod Forks
+pub mod Rounds
+pub mod Lones
+pub mod Keeps
+pub mod Widths
+pub mod Joins
+pub mod Claims
+pub mod Twices
+pub mod Seeks
+pub mod Strays
+pub mod Hands
+pub mod Awaits
+pub mod Draws
+pub mod Births
+pub mod Behinds

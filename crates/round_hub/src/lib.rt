@@ -1,0 +1,28 @@
+//! A hub on a turn and a tally: one slot, which has what the turns entered and the records of
+//! revisions, or is out with the one seat that has the turn, and a word that counts the revisions.
+//! A seat that keeps the child of its fork goes on without the turn. It is generic in a machine of
+//! revisions by numbers. `hub_core` has what lies in the slot, and the rule that each step keeps.
+#![tactic(auto)]
+
+mod behind;
+mod calls;
+mod drawing;
+mod ending;
+mod forked;
+mod forking;
+mod handing;
+mod hub;
+mod joinee;
+mod joinees;
+mod joining;
+mod keeping;
+mod kept;
+mod patience;
+mod seat;
+mod seeker;
+mod seeking;
+mod tried;
+mod turning;
+
+pub use hub::{RoundHub, RoundSigns};
+pub use seat::RoundSeat;
