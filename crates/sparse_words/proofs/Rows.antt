@@ -80,7 +80,7 @@ module _ {M : Type 1} {𝓤 : Ura M} (𝓛 : Logic 𝓤) where
       use1 𝓛 (raw (Reset b o p ns i m)) (all_e 𝓤 (Reset b o p ns i) m) $ move ! (1 ∷ 0 ∷ []) $ by !
       (apply∗ 𝓤 ⟦ spot b p m ⟧ ⟦ row b o (set ns i m) ⟧)
 
-  -- the words of a row come to where they lie in another
+  -- words that are owned on their own come into a row, to where they lie in it: from its word i on
   pub lays : (b o p : ℕ) (xs ns : List ℕ) (i : ℕ) → i + length xs ≤ length ns → p ≡ i * 8 + o → ⟦ row b o ns ⟧ ∗ ⟦
       row b p xs ⟧ ⊢ ⟦ row b o (laid ns i xs) ⟧
   lays b o p [] ns i l e = base.Logic.fst∗ 𝓤 ⟦ row b o ns ⟧ (emp 𝓤)

@@ -12,15 +12,18 @@ use denote.RawPtr.{Ptr, block_ptr, block_of, count_of, InBlock}
 use Rattle.atomic_table.specs.Seated.{word, fact, seen, roster}
 use Rattle.sparse_words.specs.Words.{State, blank}
 
--- a number, a blank word, and one that is away
+-- what is owned of the word n at the place o of the block b, where it is a number, blank or away: memory
+-- that has the number, memory that was not written, and nothing
 abbrev pub spot_of : Bool → Bool → ℕ → ℕ → ℕ → Fml
 spot_of true e b o n = word b o n
 spot_of false true b o n = froom (ty_int w64) b o
 spot_of false false b o n = ftrue
 
+-- the same, where n itself says which of the three it is
 abbrev pub spot : ℕ → ℕ → ℕ → Fml
 spot b o n = spot_of (ltb n blank) (n == blank) b o n
 
+-- words side by side from the place o on, 8 bytes each
 abbrev pub row : ℕ → ℕ → List ℕ → Fml
 row b o [] = ftrue
 row b o (n ∷ ns) = fsep (spot b o n) (row b (o + 8) ns)

@@ -9,7 +9,8 @@ use std::sync::atomic::Ordering::SeqCst;
 use std::sync::atomic::raw;
 
 impl<V, K, P: WordRule<V, K>> Words<V, K, P> {
-    /// A view changes only at a step, so this and `join_seat` load word 0 and ignore what they find.
+    /// Cuts the view of a seat in two, of which a new seat has the second. A view changes only at a
+    /// step, so this and `join_seat` load word 0 and ignore what they find.
     pub fn split_seat<M: Split<V>>(&self, seat: &mut Seat<V>) -> Seat<V>
         requires { (seat.old.words ≡ self.now.id) × (0 < self.now.id.words)
             × Splits (P.holds self.now.key) seat.old.id seat.old.view (M.left seat.old.view)
@@ -35,6 +36,7 @@ impl<V, K, P: WordRule<V, K>> Words<V, K, P> {
         unsafe { raw::load::<Brand>(self.ptr, SeqCst) };
     }
 
+    /// The seat takes in the view of the other, which is spent.
     pub fn join_seat<M: Join<V>>(&self, seat: &mut Seat<V>, mut other: Seat<V>)
         requires { (seat.old.words ≡ self.now.id) × (other.words ≡ self.now.id)
             × (0 < self.now.id.words)

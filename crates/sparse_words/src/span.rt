@@ -1,5 +1,6 @@
 //! Words side by side that no thread shares.
-ghost use Rattle.std.specs.Prelude.{◌≡◌, ℕ, ◌*◌, ◌<◌, ◌≤◌, ◌^◌, List, length, slice_index, slice_set, replicate, IfOk};
+ghost use Rattle.std.specs.Prelude.{◌≡◌, ℕ, ◌*◌, ◌<◌, ◌≤◌, ◌^◌, IfOk};
+ghost use Rattle.std.specs.Prelude.{List, length, slice_index, slice_set, replicate};
 ghost use denote.RawPtr.{Ptr, coded_ptr};
 ghost use Rattle.sparse_words.specs.Words.{blank};
 ghost use Rattle.sparse_words.specs.Owned.{span, freed_by};

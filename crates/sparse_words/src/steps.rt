@@ -10,6 +10,7 @@ use std::sync::atomic::Ordering::SeqCst;
 use std::sync::atomic::raw;
 
 impl<V, K, P: WordRule<V, K>> Words<V, K, P> {
+    /// The word at an index, which is a number.
     pub fn load<M: Play<V>>(&self, seat: &mut Seat<V>, word: usize) -> u64
         requires { (seat.old.words ≡ self.now.id) × (word < self.now.id.words)
             × Allows (P.holds self.now.key) seat.old.id seat.old.view word (λ n. n)
@@ -20,6 +21,7 @@ impl<V, K, P: WordRule<V, K>> Words<V, K, P> {
         unsafe { raw::load::<Brand>(self.ptr.add(word), SeqCst) }
     }
 
+    /// Makes this number the word at an index, which is a number before.
     pub fn store<M: Play<V>>(&self, seat: &mut Seat<V>, word: usize, new: u64)
         requires { (seat.old.words ≡ self.now.id) × (word < self.now.id.words)
             × Allows (P.holds self.now.key) seat.old.id seat.old.view word (λ _. new)
@@ -30,6 +32,7 @@ impl<V, K, P: WordRule<V, K>> Words<V, K, P> {
         unsafe { raw::store::<Brand>(self.ptr.add(word), new, SeqCst) }
     }
 
+    /// Adds to the word at an index, modulo 2^64, and returns it as it was.
     pub fn fetch_add<M: Play<V>>(&self, seat: &mut Seat<V>, word: usize, k: u64) -> u64
         requires { (seat.old.words ≡ self.now.id) × (word < self.now.id.words)
             × Allows (P.holds self.now.key) seat.old.id seat.old.view word (λ n. (n + k) % 2 ^ 64)

@@ -47,6 +47,7 @@ impl<V> Model for Seat<V> {
 }
 
 impl<V, K, P: WordRule<V, K>> Words<V, K, P> {
+    /// Brings a span under the rule, and makes the first seat. The words are told what is in `about`.
     pub fn deal(about: &K, span: Span) -> (Words<V, K, P>, Seat<V>)
         requires { P.holds about.now (opening span.items (P.first about.now)) }
         ensures words { (result.0.id.words ≡ length span.items) × (result.0.ptr ≡ span.ptr)

@@ -1,3 +1,4 @@
+-- The right to give memory back may go to another thread where the allocator may.
 use denote.RattleType.{RattleType}
 use denote.Param.Send.{IsSend, Frees}
 use Rattle.core.specs.declared.alloc.Allocator.{Ghosts}

@@ -1,3 +1,4 @@
+-- Threads may share a `&` to the right to give memory back where the allocator may go to another.
 use denote.RattleType.{RattleType}
 use denote.Param.Send.{IsSend, IsSync, Frees, part_keyless}
 use Rattle.core.specs.declared.alloc.Allocator.{Ghosts}

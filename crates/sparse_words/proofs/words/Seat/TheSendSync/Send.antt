@@ -1,3 +1,4 @@
+-- A seat may go to another thread: what it owns names no thread.
 use denote.RattleType.{RattleType}
 use denote.Param.Send.{IsSend}
 use Rattle.sparse_words.specs.contracts.words.Seat.{the_row}

@@ -1,3 +1,4 @@
+-- The words may go to another thread: what they own names no thread.
 use denote.RattleType.{RattleType}
 use denote.Param.Send.{IsSend}
 use Rattle.sparse_words.specs.declared.words.WordRule.{Ghosts}

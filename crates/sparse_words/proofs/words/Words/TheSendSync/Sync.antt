@@ -1,3 +1,4 @@
+-- Threads may share a `&` to the words: what it holds names no thread.
 use denote.RattleType.{RattleType}
 use denote.Param.Send.{IsSync, sendable}
 use Rattle.sparse_words.specs.declared.words.WordRule.{Ghosts}
