@@ -1,5 +1,6 @@
 //! A table at its end.
-ghost use Rattle.std.specs.Prelude.{◌≡◌, ℕ, ◌+◌, ◌*◌, ◌%◌, ◌^◌, ◌<◌, ◌≤◌, length, slice_index, false};
+ghost use Rattle.std.specs.Prelude.{◌≡◌, ℕ, ◌+◌, ◌*◌, ◌%◌, ◌^◌, ◌<◌, ◌≤◌};
+ghost use Rattle.std.specs.Prelude.{length, slice_index, false};
 ghost use Rattle.sparse_words.specs.Words.{blank};
 ghost use Rattle.sparse_table.specs.Parts.{total_of};
 ghost use Rattle.sparse_table.specs.Ended.{Ending};

@@ -34,18 +34,21 @@ impl<V, M: atomic_table::Play<(), V>> Play<Doing<V>> for Inner<M> {
     ghost then = { inner_told M.then };
 }
 
+/// A look at the flag of a part, by a seat that is to make the part where it is not there.
 pub struct Begin;
 
 impl<V> Play<Doing<V>> for Begin {
     ghost then = { begun };
 }
 
+/// A store to the flag of the part that the seat makes, at which the blank words of it leave.
 pub struct Take;
 
 impl<V> Play<Doing<V>> for Take {
     ghost then = { took };
 }
 
+/// A store to that flag, at which the words come back and the seat knows the part to be there.
 pub struct Enter;
 
 impl<V> Play<Doing<V>> for Enter {

@@ -56,6 +56,7 @@ pub struct Shape<K> {
     pub shift: u32,
 }
 
+/// The rule of the words below a table, made of the user's.
 pub struct Law<P> {
     rule: PhantomData<P>,
 }

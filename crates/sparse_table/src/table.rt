@@ -8,6 +8,7 @@ use crate::zeros::write_zeros;
 use sparse_words::{Right, Span, Words};
 use std::alloc::{AllocError, Global};
 
+/// A seat of the words below a table. Its view is the user's, with the trail.
 pub type Pass<V> = sparse_words::Seat<Doing<V>>;
 
 /// Words in parts of one width. The first word of each part is there from the start.
