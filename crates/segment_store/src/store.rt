@@ -27,6 +27,7 @@ use sparse_table::{Seat, Table};
 use std::alloc::{AllocError, Global};
 use version_map::{Collapsed, Delta, How, mask_rows};
 
+/// A seat of a store's table.
 pub type Place = Seat<SegmentView>;
 
 // No chain is longer.
