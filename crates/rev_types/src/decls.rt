@@ -409,7 +409,7 @@ fn return_use(name: &Name, result_kind: Option<ValueKind>, returns: bool) -> Opt
     }
 }
 
-/// A procedure.
+/// The first fault of a procedure, or none.
 fn proc_decl(
     alloc: Global,
     outer: &Checker,

@@ -1,4 +1,7 @@
 -- All that declarations break is broken by the rules.
+--
+-- Each fault that the checker lists of a declaration is one that the rules give there. What it keeps of the
+-- declarations before it stands in Decls.
 use Rattle.std.proofs.Common.{◌≡◌, ◌∙◌, ◌≢◌, inl, inr, ℕ, ◌+◌, ◌-◌, ◌≤◌, ◌<◌, min, Bool, true, false, cond, nat_eq, nat_le, nat_lt, Option, Some, None, is_some, List, [], ◌∷◌, ◌++◌, map, length, refl, sym, ap, subst, arith, true≢false}
 use Rattle.std.proofs.lemmas.Bool.Decides.{nat_tests}
 use Rattle.std.proofs.lemmas.List.{map-append}
@@ -52,6 +55,7 @@ words_end : (before : List Parameter) (q : Parameter)
     → map parameter_word (before ++ q ∷ []) ≡ map parameter_word before ++ q.name ∷ []
 words_end before q = map-append parameter_word before (q ∷ [])
 
+-- a name that is known with one parameter more is that of this one or of one before
 known_next : (l : Locals) (before : List Parameter) (q : Parameter) → Scope l before → (name : Name)
     → is_some (find name (added l q.name.text (Some q.kind))) ≡ true
     → (v : PlacedName) × Among (map parameter_word before ++ q.name ∷ []) v × (v.text ≡ name)
@@ -60,6 +64,7 @@ known_next l before q f name h = elim (known_added name q.name.text (Some q.kind
   | inr b ↦ (q.name, among_behind (map parameter_word before) q.name [], sym b)
 ]
 
+-- and each of these names is known then
 knows_next : (l : Locals) (before : List Parameter) (q : Parameter) → Scope l before → (v : PlacedName)
     → Among (map parameter_word before ++ q.name ∷ []) v
     → is_some (find v.text (added l q.name.text (Some q.kind))) ≡ true

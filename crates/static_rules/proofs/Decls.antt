@@ -1,4 +1,7 @@
--- The faults of declarations, from where they stand.
+-- What the checker keeps of the declarations that it has passed.
+--
+-- `Met`: its tables and what it counts are those of the declarations before; it begins so, and one declaration
+-- more keeps it. The faults that it lists of a declaration stand in Declarations.
 use Rattle.std.proofs.Common.{◌≡◌, ◌∙◌, inl, inr, ℕ, ◌+◌, ◌-◌, min, true, is_some, List, [], ◌∷◌, ◌++◌, refl, sym, ap, subst, arith}
 use Rattle.rev_syntax.specs.Trees.{Declaration, fun, merge, shared, proc}
 use Rattle.typed_programs.specs.Least.{Among}
