@@ -91,12 +91,14 @@ module _ (p : ProgramTree) where
         result = sym d.gives;
       }
 
-  -- what is known of a name: its fun was declared before and is paid for, or comes later
+  -- the fun of a name comes later: its head and its number are those from there on, and it has no weight yet
   record Ahead (ws : Table ℕ) (at d m : ℕ) (rest : List Declaration) (name : Name) (h : FunHead) : Type 0 where
     first : first_fun d m rest name ≡ Some h
     number : n.fun name ≡ at + fun_number name rest
     free : find name ws ≡ None
 
+  -- what is known at the block `at`, with these declarations still to come: each block before has its cost, and
+  -- each fun is paid for under its name, or comes later
   record Sofar (ws : Table ℕ) (costs : List Cost) (at d m : ℕ) (rest : List Declaration) : Type 0 where
     many : length costs ≡ at
     names : (name : Name) (h : FunHead) → rule.fun_named p name ≡ Some h
@@ -240,6 +242,7 @@ module _ (p : ProgramTree) where
   longer : (costs : List Cost) (new : Cost) (at : ℕ) → length costs ≡ at → length (costs ++ new ∷ []) ≡ suc at
   longer costs new at h = let z = length-append costs (new ∷ []) in omega (arith, z, h)
 
+  -- so it is behind a fun too, with its weight under its name and the cost of its block
   after_fun : (ws : Table ℕ) (costs : List Cost) (at d m : ℕ) (w : PlacedName) (ps : List Parameter) (r : ValueKind)
       (body : Expression) (es : List Declaration)
       → Sofar ws costs at d m (fun w ps r body ∷ es)

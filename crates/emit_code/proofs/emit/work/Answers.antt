@@ -1,4 +1,4 @@
--- Answers of work: one turn of a task comes to what the task does, so the code behind all tasks never changes.
+-- Answers of work: a turn keeps the code that will stand when all tasks are done.
 use Rattle.std.proofs.Common.{◌≡◌, ◌∙◌, ◌++◌, ◌∷◌, [], ap, sym, refl, arith, length}
 use Rattle.typed_programs.proofs.Declared.{no_elements}
 use Rattle.emit_code.specs.Naming.{numbers_of}

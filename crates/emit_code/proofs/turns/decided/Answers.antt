@@ -1,4 +1,4 @@
--- Answers of decided: the jump, the constant and the patched test make the code of a right side left out.
+-- Answers of decided: the jump, the constant and the patched test make the code of a right operand left out.
 use Rattle.std.proofs.Common.{ap}
 use Rattle.rev_syntax.specs.View.{links}
 use Rattle.emit_code.specs.Naming.{numbers_of}
