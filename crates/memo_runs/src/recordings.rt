@@ -6,15 +6,16 @@ ghost use Rattle.memo_runs.specs.Laws.{CountedAtTheEnd, CountedAtTheStart, Count
 ghost use Rattle.memo_runs.specs.Laws.{CountedWithout, RecordedAtTheEnd, RecordedAtTheStart};
 ghost use Rattle.memo_runs.specs.Laws.{RecordedWith, RecordedWithout};
 
-/// A revision that has listed nothing behind its leg is a leaf; and so is one whose end is taken
-/// over from an entry.
+/// A revision that behind its leg has listed no fork and no join is a leaf; and so is one whose end
+/// is taken over from an entry.
 pub fn leaf_laws()
     ensures found { LeavesAreFound }
     ensures adopted { AdoptedIsLeaf }
 {}
 
-/// Nothing is recorded before the first leg; a leg that is not a leaf's adds nothing, and a leaf's
-/// one entry, which is a new one; and at the end the entries are the memo of the run.
+/// What is recorded of a run, as entries of its leaves. There is nothing before the first leg; a leg
+/// that is not a leaf's adds nothing, and a leaf's one entry, which is a new one; and at the end the
+/// entries are the memo of the run.
 pub fn recording_laws()
     ensures start { RecordedAtTheStart }
     ensures without { RecordedWithout }
@@ -22,7 +23,9 @@ pub fn recording_laws()
     ensures end { RecordedAtTheEnd }
 {}
 
-/// So it is with the revisions that have a valid entry: at the end they are those that are reused.
+/// What is counted of a run that is repeated by entries: the leaves that have a valid one of them. It
+/// is none before the first leg; a leg adds its revision where that is such a leaf, and else nothing;
+/// and at the end as many are counted as are reused.
 pub fn counting_laws()
     ensures start { CountedAtTheStart }
     ensures without { CountedWithout }

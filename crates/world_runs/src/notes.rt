@@ -15,7 +15,7 @@ use leg_run::Meeting;
 use std::alloc::{AllocError, Global};
 use version_map::EndValue;
 
-/// Adds an entry to the list of a revision, where there is one.
+/// Adds a fork or a join to what is noted of the revision of this number, where the leg made one.
 fn add_meeting(
     notes: &mut Vec<Noted>,
     number: usize,
@@ -29,7 +29,7 @@ fn add_meeting(
     Ok(())
 }
 
-/// Notes what a revision left.
+/// Notes what the revision of this number left, once it has ended.
 fn set_end(notes: &mut Vec<Noted>, number: usize, end: Option<EndValue>)
     requires { number < length notes.old.items }
     ensures { (v : rust.World) → IsEndIn v number end
@@ -51,8 +51,8 @@ fn end_copied(alloc: Global, world: &World, number: u32) -> Result<Option<EndVal
     }
 }
 
-/// Notes of a revision that has ended in this world, and the entry of its last join, where that
-/// ended it.
+/// Notes that the revision of this number has ended in this world, with what it left, and its last
+/// join, where that ended it.
 fn note_end(
     alloc: Global,
     notes: &mut Vec<Noted>,
@@ -70,7 +70,7 @@ fn note_end(
     Ok(())
 }
 
-/// Notes of a fork, of which the child comes last.
+/// Notes a fork of the revision of this number, and begins the notes of the child, which come last.
 fn note_fork(
     alloc: Global,
     notes: &mut Vec<Noted>,
@@ -85,7 +85,8 @@ fn note_fork(
     Ok(())
 }
 
-/// Notes of a leg of this revision that came out so, in the world after it.
+/// Notes a leg of the revision of this number that came out so, in the world after it. Where there
+/// was no leg, and where a revision was joined twice, the notes stay. Want of memory is the one error.
 pub(crate) fn note_leg(
     alloc: Global,
     notes: &mut Vec<Noted>,
