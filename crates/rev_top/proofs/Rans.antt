@@ -1,4 +1,5 @@
--- What a call promises of the run by threads that it hands out follows from what happened.
+-- The report of a run by threads is what its mode says, and the run stands beside it; and what a call promises of
+-- the run that it hands out follows from what happened.
 use Rattle.std.proofs.Common.{◌≡◌, ◌∙◌, refl, sym, subst, ap, List, [], ℕ, ◌≤◌, ◌++◌, inl, inr, arith, rules, true, false, length, take}
 use Rattle.std.specs.Prelude.{Bool, Option, Some, None, Result, Ok, Err, IfOk, is_some}
 use Rattle.rev_io.specs.Stream.{Stream, Took, TookSome}
@@ -116,6 +117,7 @@ module _ (w : Words) (read : List ℕ) where
   unfolding SaysAs
   order_says r h = says w of_order read (Orders w) (order_written w) r h
 
+  -- the same, of a mode that is this one
   module _ (r : Result Made Stop) (m : Mode) where
     pub run_in : m ≡ modes.Run → Meets told r (RunsText w (of_run w) read) → Meets said r (SaysAs m w read)
     run_in is h = subst (λ (x : Mode). Meets said r (SaysAs x w read)) (sym is) (run_says r h)

@@ -20,6 +20,7 @@ pub struct Meeting {
 }
 
 impl Meeting {
+    /// A gate with these pairs, of which the first waits for the second. Nobody has entered.
     pub fn new(pairs: [(u32, u32); 2]) -> Meeting {
         Meeting {
             pairs,
