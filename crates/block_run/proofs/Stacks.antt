@@ -69,18 +69,18 @@ locals_set ws base n i w h = ap (take n) (drop-set-add base ws i w) ∙ take-set
 
 -- ---- instructions
 
-pub same_run : (at at' fuel line : ℕ) (l l' s s' : List ℕ) → at ≡ at' → l ≡ l' → s ≡ s'
+pub same_run : {at at' fuel line : ℕ} {l l' s s' : List ℕ} → at ≡ at' → l ≡ l' → s ≡ s'
     → moves (record { at = at; locals = l; stack = s; fuel = fuel; line = line })
     ≡ moves (record { at = at'; locals = l'; stack = s'; fuel = fuel; line = line })
-same_run at at' fuel line l l' s s' g e f =
+same_run {fuel = fuel} {line = line} g e f =
     (λ j. moves (record { at = g j; locals = e j; stack = f j; fuel = fuel; line = line }))
 
 abbrev pub with_parts : (at fuel line : ℕ) (l s : List ℕ) → Run
 with_parts at fuel line l s = record { at = at; locals = l; stack = s; fuel = fuel; line = line }
 
-pub run_is : (at at' fuel line : ℕ) (l s s' : List ℕ) → at ≡ at' → s ≡ s'
+pub run_is : {at at' fuel line : ℕ} {l s s' : List ℕ} → at ≡ at' → s ≡ s'
     → with_parts at fuel line l s ≡ with_parts at' fuel line l s'
-run_is at at' fuel line l s s' g f = λ j. with_parts (g j) fuel line l (f j)
+run_is {fuel = fuel} {line = line} {l = l} g f = λ j. with_parts (g j) fuel line l (f j)
 
 pub one_more : (n : ℕ) → suc n ≡ n + 1
 one_more n = omega arith
@@ -94,7 +94,7 @@ module _ (b : CodeBlock) (ws : List ℕ) (r : Registers) where
       let at : r.top ≡ low b r + (r.top - low b r) = omega (arith, over) in
       let more : r.top + 1 - low b r ≡ suc (r.top - low b r) = omega (arith, over) in
       record {
-        steps = same_run _ _ _ _ _ _ _ _ (one_more r.at) (sym (locals_below ws r.base (length b.locals) r.top w over))
+        steps = same_run (one_more r.at) (sym (locals_below ws r.base (length b.locals) r.top w over))
             (sym (stack_push ws (low b r) (r.top - low b r) r.top _ w at more room));
         stays = record {
           block = refl;
@@ -114,7 +114,7 @@ module _ (b : CodeBlock) (ws : List ℕ) (r : Registers) where
       let over : low b r ≤ r.top - 1 = omega (arith, found) in
       let in_range : r.top - 1 < length ws = omega (arith, found, within) in
       record {
-        steps = same_run _ _ _ _ _ _ _ _ (one_more r.at)
+        steps = same_run (one_more r.at)
             (sym (locals_below ws r.base (length b.locals) (r.top - 1) w over))
             (ap (λ s. w ∷ s) (stack_drop_one ws (low b r) _ _ height)
             ∙ sym (stack_push ws (low b r) (r.top - 1 - low b r) (r.top - 1) _ w at height in_range));
@@ -137,7 +137,7 @@ module _ (b : CodeBlock) (ws : List ℕ) (r : Registers) where
       let over : low b r ≤ r.top - 2 = omega (arith, found) in
       let in_range : r.top - 2 < length ws = omega (arith, found, within) in
       record {
-        steps = same_run _ _ _ _ _ _ _ _ (one_more r.at)
+        steps = same_run (one_more r.at)
             (sym (locals_below ws r.base (length b.locals) (r.top - 2) w over))
             (ap (λ s. w ∷ s) (stack_drop ws (low b r) _ _ height)
             ∙ sym (stack_push ws (low b r) (r.top - 2 - low b r) (r.top - 2) _ w at more in_range));
@@ -155,21 +155,21 @@ module _ (b : CodeBlock) (ws : List ℕ) (r : Registers) where
       ≡ moves (run_of b ws (record r { at = to; top = r.top - 1 }))
   popped to found =
       let height : r.top - low b r ≡ suc (r.top - 1 - low b r) = omega (arith, found) in
-      same_run _ _ _ _ _ _ _ _ refl refl (stack_drop_one ws (low b r) _ _ height)
+      same_run refl refl (stack_drop_one ws (low b r) _ _ height)
 
   pub run_popped : low b r + 1 ≤ r.top
       → with_parts (suc r.at) r.fuel r.line (run_of b ws r).locals (drop 1 (run_of b ws r).stack)
       ≡ run_of b ws (record r { at = r.at + 1; top = r.top - 1 })
   run_popped found =
       let height : r.top - low b r ≡ suc (r.top - 1 - low b r) = omega (arith, found) in
-      run_is _ _ _ _ _ _ _ (one_more r.at) (stack_drop_one ws (low b r) _ _ height)
+      run_is (one_more r.at) (stack_drop_one ws (low b r) _ _ height)
 
   pub run_popped_twice : low b r + 2 ≤ r.top
       → with_parts (suc r.at) r.fuel r.line (run_of b ws r).locals (drop 2 (run_of b ws r).stack)
       ≡ run_of b ws (record r { at = r.at + 1; top = r.top - 1 - 1 })
   run_popped_twice found =
       let height : r.top - low b r ≡ suc (suc (r.top - 1 - 1 - low b r)) = omega (arith, found) in
-      run_is _ _ _ _ _ _ _ (one_more r.at) (stack_drop ws (low b r) _ _ height)
+      run_is (one_more r.at) (stack_drop ws (low b r) _ _ height)
 
   -- the word on top into a local
   pub stored : (n : ℕ) → n < length b.locals → low b r + 1 ≤ r.top
@@ -182,7 +182,7 @@ module _ (b : CodeBlock) (ws : List ℕ) (r : Registers) where
       let w = get_or ws (r.top - 1) 0 in
       record {
         steps = ap (p.into_local (run_of b ws r) n) (stack_top ws (low b r) _ _ (r.top - 1) height at)
-            ∙ same_run _ _ _ _ _ _ _ _ (one_more r.at) (sym (locals_set ws r.base (length b.locals) n w small))
+            ∙ same_run (one_more r.at) (sym (locals_set ws r.base (length b.locals) n w small))
             (sym (stack_above ws (low b r) _ (r.base + n) w below_stack));
         stays = record {
           block = refl;

@@ -383,13 +383,13 @@ module _ (code : Code) (ok : IsAccepted code (notes_of code)) (inputs : List ℤ
       leaves = leaving d;
     }
 
-pub below_still : (base base' : ℕ) (ws ws' ws'' : List ℕ) → base' ≡ base → take base' ws'' ≡ take base' ws'
+pub below_still : {base base' : ℕ} (ws ws' ws'' : List ℕ) → base' ≡ base → take base' ws'' ≡ take base' ws'
     → take base ws' ≡ take base ws → take base ws'' ≡ take base ws
-below_still base base' ws ws' ws'' e f g = subst (λ n. take n ws'' ≡ take n ws') e f ∙ g
+below_still ws ws' ws'' e f g = subst (λ n. take n ws'' ≡ take n ws') e f ∙ g
 
-pub kept_on : (size size' : ℕ) (sees sees' sees'' : ℕ → ℕ) (root root' root'' : ℕ → Option ℕ) → size' ≡ size
+pub kept_on : {size size' : ℕ} {sees sees' sees'' : ℕ → ℕ} {root root' root'' : ℕ → Option ℕ} → size' ≡ size
     → Kept size sees sees' root root' → Kept size' sees' sees'' root' root'' → Kept size sees sees'' root root''
-kept_on size size' sees sees' sees'' root root' root'' e f g = record {
+kept_on e f g = record {
   words = λ l h. (g.words l (subst (λ n. l < n) (sym e) h) ∙ f.words l h);
   roots = λ l h. (g.roots l (subst (λ n. l < n) (sym e) h) ∙ f.roots l h);
 }

@@ -1,13 +1,18 @@
 -- What is noted where notes are on. Those that are off stay off, and need no places.
+--   is_on           whether they are on
 --   HasPlaces       notes of as many locations and of as many positions of the input as there are
 --   HasPlacesIfOn   the same of notes that are on
 --   HasMarkedIfOn   notes that are on have these marks more, and no others
-use Rattle.std.specs.Prelude.{ℕ, ◌≡◌, ◌<◌, ◌^◌, ℤ, List, length}
+use Rattle.std.specs.Prelude.{ℕ, ◌≡◌, ◌<◌, ◌^◌, ℤ, Bool, true, false, List, length}
 use Rattle.version_map.specs.Deltas.{locations}
 use Rattle.block_run.specs.declared.notes.ReadMarks.{ReadMarks}
 use Rattle.block_run.specs.declared.notes.Notes.{Notes}
 use Rattle.block_run.specs.declared.notes.Notes.TheVariants as notes
 use Rattle.block_run.specs.Marks.{Mark, HasMarked}
+
+abbrev pub is_on : Notes → Bool
+is_on notes.Off = false
+is_on (notes.On noted) = true
 
 -- of so many locations, and of this input, whose positions are numbers of 32 bits
 pub record HasPlaces (size : ℕ) (inputs : List ℤ) (noted : ReadMarks) : Type 0 where

@@ -20,7 +20,7 @@ use version_map::Snapshot;
 
 /// The instruction at a place.
 #[inline(always)]
-fn fetch(instrs: &[Instr], at: u32) -> &Instr
+pub fn fetch(instrs: &[Instr], at: u32) -> &Instr
     requires { at < length instrs.now }
     ensures { slice_get instrs.now at ≡ Some result.now }
 {
@@ -75,7 +75,7 @@ pub fn run_block<P: Snapshot>(
     let instrs = b.instrs.as_slice();
     let mut x = fetch(instrs, r.at);
     loop {
-        match act(code, table, inputs, b, memory, words, &mut r, x, &mut notes) {
+        match act::<P, false>(code, table, inputs, b, memory, words, &mut r, x, &mut notes) {
             Act::Goes => x = fetch(instrs, r.at),
             last => {
                 registers.at = r.at;

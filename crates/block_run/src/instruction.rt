@@ -14,32 +14,18 @@ ghost use Rattle.block_run.specs.Deeds.{registers_after, run_after, stop_after, 
 ghost use Rattle.block_run.specs.Deeds.{Fits, IsDeedOf};
 ghost use Rattle.block_run.specs.Marks.{plain_marks};
 ghost use Rattle.block_run.specs.Stops.{stop_of};
-ghost use Rattle.block_run.specs.WhereOn.{HasMarkedIfOn, HasPlacesIfOn};
+ghost use Rattle.block_run.specs.WhereOn.{HasMarkedIfOn, HasPlacesIfOn, is_on};
 
 use crate::deed::{Deed, settle};
 use crate::marking::{note_count_input, note_load, note_load_cell, note_load_input};
 use crate::memory::Memory;
 use crate::notes::Notes;
 use crate::registers::{Act, BlockTrap, Registers, Variable};
+use crate::table::cell;
 use crate::values;
 use rev_code::{Code, CodeBlock, Instr};
 use rev_num::word_of_int;
 use version_map::Snapshot;
-
-/// The location of a cell, where the index is inside.
-#[inline(always)]
-pub(crate) fn cell(t: Variable, index: u64) -> Option<u32>
-    requires { t.first + t.cells < 2 ^ 32 }
-    ensures value { (p : Place) → p.first ≡ t.first → p.var.cells ≡ t.cells
-        → result ≡ cell_at p (int_of index) }
-    ensures within { IfSome result (λ l. l < t.first + t.cells) }
-{
-    if index < t.cells as u64 {
-        Some(t.first + index as u32)
-    } else {
-        None
-    }
-}
 
 /// Where a scalar lies.
 #[inline(always)]
@@ -240,7 +226,7 @@ fn act_check_cell(
 
 /// Does one instruction up to what it leaves to be done, and notes what `act` notes.
 #[inline(always)]
-fn deed_of<P: Snapshot>(
+fn deed_of<P: Snapshot, const ON: bool>(
     code: &Code,
     table: &[Variable],
     inputs: &[i64],
@@ -257,6 +243,7 @@ fn deed_of<P: Snapshot>(
     requires placed { IsPlaced b.now r.old (length words.old) (taken x.now) }
     requires room { r.old.top + pushes x.now ≤ length words.old }
     requires places { HasPlacesIfOn (P.size memory.old.snapshot) inputs.now notes.old }
+    requires on { is_on notes.old ≡ ON }
     ensures marked { HasMarkedIfOn notes.old notes.new (plain_marks code.now.vars inputs.now
         (at memory.old.first.roots) (run_of b.now words.old r.old) x.now) }
     ensures does { Does (p.plain code.now.vars inputs.now
@@ -287,7 +274,7 @@ fn deed_of<P: Snapshot>(
         Instr::StoreLocal(n) => values::act_store(b, words, r, n),
         Instr::LoadShared(v) => {
             let t = scalar_at(code, table, v);
-            note_load(code, inputs, memory, t, v, notes);
+            note_load::<P, ON>(code, inputs, memory, t, v, notes);
             act_load_shared(code, b, memory, words, r, v, t)
         },
         Instr::StoreShared(v) => {
@@ -296,7 +283,7 @@ fn deed_of<P: Snapshot>(
         },
         Instr::LoadCell(v) => {
             let t = array_at(code, table, v);
-            note_load_cell(code, inputs, b, memory, words, r, t, v, notes);
+            note_load_cell::<P, ON>(code, inputs, b, memory, words, r, t, v, notes);
             act_load_cell(code, b, memory, words, r, v, t)
         },
         Instr::StoreCell(v) => {
@@ -308,11 +295,11 @@ fn deed_of<P: Snapshot>(
             act_check_cell(code, b, words, r, v, t)
         },
         Instr::LoadInput => {
-            note_load_input(inputs, b, words, r, notes);
+            note_load_input::<ON>(inputs, b, words, r, notes);
             values::act_load_input(b, words, r, inputs)
         },
         Instr::CountInput => {
-            note_count_input(notes);
+            note_count_input::<ON>(notes);
             values::act_count_input(b, words, r, inputs)
         },
         Instr::Add => values::act_add(b, words, r),
@@ -345,9 +332,10 @@ fn deed_of<P: Snapshot>(
 }
 
 /// Does one instruction of a block, unless it leaves the block or meets another revision. Where notes
-/// are on it notes what the instruction reads; only an instruction that reads looks whether they are.
+/// are on it notes what the instruction reads. `ON` says whether they are, so that the compiler makes
+/// code of each case, and where they are off nothing looks at them.
 #[inline(always)]
-pub fn act<P: Snapshot>(
+pub fn act<P: Snapshot, const ON: bool>(
     code: &Code,
     table: &[Variable],
     inputs: &[i64],
@@ -364,6 +352,7 @@ pub fn act<P: Snapshot>(
     requires placed { IsPlaced b.now r.old (length words.old) (taken x.now) }
     requires room { r.old.top + pushes x.now ≤ length words.old }
     requires places { HasPlacesIfOn (P.size memory.old.snapshot) inputs.now notes.old }
+    requires on { is_on notes.old ≡ ON }
     ensures marked { HasMarkedIfOn notes.old notes.new (plain_marks code.now.vars inputs.now
         (at memory.old.first.roots) (run_of b.now words.old r.old) x.now) }
     ensures does { Does (p.plain code.now.vars inputs.now
@@ -383,6 +372,6 @@ pub fn act<P: Snapshot>(
     ensures size { P.size memory.new.snapshot ≡ P.size memory.old.snapshot }
     ensures group { P.group memory.new.snapshot ≡ P.group memory.old.snapshot }
 {
-    let deed = deed_of(code, table, inputs, b, memory, words, r, x, notes);
+    let deed = deed_of::<P, ON>(code, table, inputs, b, memory, words, r, x, notes);
     settle(words, r, deed)
 }

@@ -12,7 +12,7 @@ mod table;
 mod values;
 mod words;
 
-pub use block::run_block;
+pub use block::{fetch, run_block};
 pub use instruction::act;
 pub use memory::Memory;
 pub use notes::{Notes, ReadMarks};

@@ -8,12 +8,12 @@ ghost use Rattle.block_run.specs.Area.{run_of, IsPlaced, IsVariable};
 ghost use Rattle.block_run.specs.Marks as marks;
 ghost use Rattle.block_run.specs.Marks.{HasMarked, cell_marks, if_first, input_marks};
 ghost use Rattle.block_run.specs.Marks.{place_marks, scalar_marks};
-ghost use Rattle.block_run.specs.WhereOn.{HasMarkedIfOn, HasPlacesIfOn};
+ghost use Rattle.block_run.specs.WhereOn.{HasMarkedIfOn, HasPlacesIfOn, is_on};
 
-use crate::instruction::cell;
 use crate::memory::Memory;
 use crate::notes::{Notes, ReadMarks};
 use crate::registers::{Registers, Variable};
+use crate::table::cell;
 use crate::values::top;
 use rev_code::{Code, CodeBlock};
 use version_map::Snapshot;
@@ -118,9 +118,9 @@ fn note_element<P: Snapshot>(
     note_cell(memory, t, top(b, words, r), noted);
 }
 
-/// Notes a scalar that is read, where notes are on.
+/// Notes a scalar that is read, where notes are on, which `ON` says.
 #[inline(always)]
-pub(crate) fn note_load<P: Snapshot>(
+pub(crate) fn note_load<P: Snapshot, const ON: bool>(
     code: &Code,
     inputs: &[i64],
     memory: &Memory<P>,
@@ -130,17 +130,19 @@ pub(crate) fn note_load<P: Snapshot>(
 )
     requires variable { IsVariable (scalar code.now.vars v) t (P.size memory.now.snapshot) }
     requires places { HasPlacesIfOn (P.size memory.now.snapshot) inputs.now notes.old }
+    requires on { is_on notes.old ≡ ON }
     ensures { HasMarkedIfOn notes.old notes.new
         (scalar_marks (at memory.now.first.roots) (scalar code.now.vars v)) }
 {
-    if let Notes::On(noted) = notes {
-        note_scalar(code, memory, t, v, noted);
+    match notes {
+        Notes::On(noted) if ON => note_scalar(code, memory, t, v, noted),
+        _ => {},
     }
 }
 
-/// Notes a cell that is read, by the index on top, where notes are on.
+/// Notes a cell that is read, by the index on top, where notes are on, which `ON` says.
 #[inline(always)]
-pub(crate) fn note_load_cell<P: Snapshot>(
+pub(crate) fn note_load_cell<P: Snapshot, const ON: bool>(
     code: &Code,
     inputs: &[i64],
     b: &CodeBlock,
@@ -155,17 +157,20 @@ pub(crate) fn note_load_cell<P: Snapshot>(
     requires variable { IsVariable (array code.now.vars v) t (P.size memory.now.snapshot) }
     requires few { t.first + t.cells < 2 ^ 32 }
     requires places { HasPlacesIfOn (P.size memory.now.snapshot) inputs.now notes.old }
+    requires on { is_on notes.old ≡ ON }
     ensures { HasMarkedIfOn notes.old notes.new (cell_marks (at memory.now.first.roots)
         (array code.now.vars v) (run_of b.now words.now r.now).stack) }
 {
-    if let Notes::On(noted) = notes {
-        note_element(code, b, memory, words, r, t, v, noted);
+    match notes {
+        Notes::On(noted) if ON => note_element(code, b, memory, words, r, t, v, noted),
+        _ => {},
     }
 }
 
-/// Notes a position of the input that is read, by the index on top, where notes are on.
+/// Notes a position of the input that is read, by the index on top, where notes are on, which `ON`
+/// says.
 #[inline(always)]
-pub(crate) fn note_load_input(
+pub(crate) fn note_load_input<const ON: bool>(
     inputs: &[i64],
     b: &CodeBlock,
     words: &[u64],
@@ -174,20 +179,24 @@ pub(crate) fn note_load_input(
 )
     requires placed { IsPlaced b.now r.now (length words.now) 1 }
     requires places { (size : ℕ) × HasPlacesIfOn size inputs.now notes.old }
+    requires on { is_on notes.old ≡ ON }
     ensures { HasMarkedIfOn notes.old notes.new
         (input_marks inputs.now (run_of b.now words.now r.now).stack) }
 {
-    if let Notes::On(noted) = notes {
-        note_position(inputs, top(b, words, r), noted);
+    match notes {
+        Notes::On(noted) if ON => note_position(inputs, top(b, words, r), noted),
+        _ => {},
     }
 }
 
-/// Notes the count of inputs, where notes are on.
+/// Notes the count of inputs, where notes are on, which `ON` says.
 #[inline(always)]
-pub(crate) fn note_count_input(notes: &mut Notes)
+pub(crate) fn note_count_input<const ON: bool>(notes: &mut Notes)
+    requires on { is_on notes.old ≡ ON }
     ensures { HasMarkedIfOn notes.old notes.new (marks.count ∷ []) }
 {
-    if let Notes::On(noted) = notes {
-        note_count(noted);
+    match notes {
+        Notes::On(noted) if ON => note_count(noted),
+        _ => {},
     }
 }

@@ -1,6 +1,8 @@
 //! Where the locations of shared variables lie.
 
-ghost use Rattle.std.specs.Prelude.{◌≡◌, IfOk};
+ghost use Rattle.std.specs.Prelude.{◌≡◌, ◌+◌, ◌<◌, ◌^◌, IfOk, IfSome};
+ghost use Rattle.rev_num.specs.Words.{int_of};
+ghost use Rattle.rev_code.specs.Variables.{Place, cell_at};
 ghost use Rattle.code_soundness.specs.AcceptedCode.{notes_of, IsAccepted};
 ghost use Rattle.block_run.specs.Area.{IsTable, table_from};
 
@@ -23,4 +25,19 @@ pub fn table_of(alloc: Global, code: &Code) -> Result<Vec<Variable>, AllocError>
         first += cells;
     }
     Ok(table)
+}
+
+/// The location of a cell, where the index is inside.
+#[inline(always)]
+pub(crate) fn cell(t: Variable, index: u64) -> Option<u32>
+    requires { t.first + t.cells < 2 ^ 32 }
+    ensures value { (p : Place) → p.first ≡ t.first → p.var.cells ≡ t.cells
+        → result ≡ cell_at p (int_of index) }
+    ensures within { IfSome result (λ l. l < t.first + t.cells) }
+{
+    if index < t.cells as u64 {
+        Some(t.first + index as u32)
+    } else {
+        None
+    }
 }

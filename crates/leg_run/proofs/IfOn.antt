@@ -1,10 +1,10 @@
 -- Notes that may be off.
-use Rattle.std.proofs.Common.{◌≡◌, ◌∙◌, ℕ, ℤ, List, [], ◌++◌, refl, sym, subst}
+use Rattle.std.proofs.Common.{◌≡◌, ◌∙◌, ℕ, ℤ, true, List, [], ◌++◌, refl, sym, ap, subst}
 use Rattle.block_run.specs.declared.notes.ReadMarks.{ReadMarks}
 use Rattle.block_run.specs.declared.notes.Notes.{Notes}
 use Rattle.block_run.specs.declared.notes.Notes.TheVariants as notes
 use Rattle.block_run.specs.Marks.{Mark, HasMarked}
-use Rattle.block_run.specs.WhereOn.{HasPlaces, HasPlacesIfOn, HasMarkedIfOn}
+use Rattle.block_run.specs.WhereOn.{HasPlaces, HasPlacesIfOn, HasMarkedIfOn, is_on}
 use Rattle.leg_run.proofs.Adding.{none_marked, marked_more}
 
 -- ---- marks
@@ -31,6 +31,18 @@ marked_back old back x y ms e f h = by y f (subst (λ z. HasMarkedIfOn z y ms) e
         → HasMarked old back ms
     by notes.Off f h = absurd h
     by (notes.On own) f h = subst (λ b. HasMarked old b ms) (sym (f own refl)) h
+
+-- ---- whether they are on
+
+pub on_of : (x : Notes) (a : ReadMarks) → x ≡ notes.On a → is_on x ≡ true
+on_of x a e = ap is_on e
+
+-- marks leave them on, or off
+pub on_still : (x y : Notes) (ms : List Mark) → HasMarkedIfOn x y ms → is_on y ≡ is_on x
+on_still notes.Off notes.Off ms h = refl
+on_still notes.Off (notes.On b) ms h = absurd h
+on_still (notes.On a) notes.Off ms h = absurd h
+on_still (notes.On a) (notes.On b) ms h = refl
 
 -- ---- places
 

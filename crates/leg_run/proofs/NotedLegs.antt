@@ -17,7 +17,7 @@ use Rattle.block_run.specs.Agreement.{AreInputs}
 use Rattle.leg_run.specs.Runs.{step_reads, reads_of}
 use Rattle.leg_run.proofs.Adding.{leg_reads_of_steps, marks_more}
 use Rattle.leg_run.proofs.IfOn.{marked_more_if_on}
-pub use Rattle.leg_run.proofs.IfOn.{marked_back, places_of}
+pub use Rattle.leg_run.proofs.IfOn.{marked_back, on_of, places_of}
 use Rattle.block_run.specs.Standing.{program, IsLeaving}
 use Rattle.block_run.specs.declared.registers.Registers.{Registers}
 use Rattle.block_run.specs.declared.registers.Stop.{Stop}

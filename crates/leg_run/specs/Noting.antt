@@ -11,7 +11,7 @@ use Rattle.leg_run.specs.ByMarks.{leg_reads}
 pub use Rattle.block_run.specs.declared.notes.ReadMarks.{ReadMarks}
 pub use Rattle.block_run.specs.declared.notes.Notes.{Notes}
 pub use Rattle.leg_run.specs.Marks.{marks_of, HasMarked}
-pub use Rattle.block_run.specs.WhereOn.{HasMarkedIfOn, HasPlaces, HasPlacesIfOn}
+pub use Rattle.block_run.specs.WhereOn.{HasMarkedIfOn, HasPlaces, HasPlacesIfOn, is_on}
 use Rattle.leg_run.specs.declared.revision.Run.{Run}
 use Rattle.leg_run.specs.declared.turn.BlockExit.{BlockExit}
 use Rattle.leg_run.specs.declared.turn.BlockExit.TheVariants as turn

@@ -9,27 +9,18 @@ ghost use Rattle.version_map.specs.Overlay.{under};
 ghost use Rattle.block_run.specs.Area.{count, IsTable};
 ghost use Rattle.block_run.specs.Standing.{Here, IsRoomy, Mode};
 ghost use Rattle.leg_run.specs.Runs.{EndsNoting};
-ghost use Rattle.block_run.specs.WhereOn.{HasPlacesIfOn};
+ghost use Rattle.block_run.specs.WhereOn.{HasPlacesIfOn, is_on};
 
-use block_run::{Act, Memory, Notes, Registers, Stop, Variable, act};
-use rev_code::{Code, CodeBlock, Instr};
+use block_run::{Act, Memory, Notes, Registers, Stop, Variable, act, fetch};
+use rev_code::{Code, CodeBlock};
 use version_map::Snapshot;
 
-/// The instruction at a place.
-#[inline(always)]
-fn fetch(instrs: &[Instr], at: u32) -> &Instr
-    requires { at < length instrs.now }
-    ensures { slice_get instrs.now at ≡ Some result.now }
-{
-    &instrs[at as usize]
-}
-
-/// Does as `run_block` does, and notes what the instructions read where notes are on. Only an
-/// instruction that reads looks at whether they are, so that legs with and without notes have one
-/// loop. It is not made a part of its caller, whose own variables would take the registers of the
-/// processor.
+/// Does as `run_block` does, and notes what the instructions read where notes are on. `ON` says
+/// whether they are, so that the compiler makes a loop of each case, and where they are off nothing
+/// looks at them. It is not made a part of its caller, whose own variables would take the registers
+/// of the processor.
 #[inline(never)]
-pub fn run_leg_block<P: Snapshot>(
+pub fn run_leg_block<P: Snapshot, const ON: bool>(
     code: &Code,
     table: &[Variable],
     inputs: &[i64],
@@ -50,6 +41,7 @@ pub fn run_leg_block<P: Snapshot>(
         (under memory.old.delta (P.base memory.old.snapshot)) (at memory.old.first.roots) }
     requires room { IsRoomy code.now b.now registers.old (length words.old) }
     requires places { HasPlacesIfOn (count code.now.vars) inputs.now notes.old }
+    requires on { is_on notes.old ≡ ON }
     ensures ends { (m : Mode) (c : State ℕ)
         → Here code.now inputs.now m b.now c words.old registers.old
         (under memory.old.delta (P.base memory.old.snapshot)) (at memory.old.first.roots)
@@ -73,7 +65,7 @@ pub fn run_leg_block<P: Snapshot>(
     let instrs = b.instrs.as_slice();
     let mut x = fetch(instrs, r.at);
     loop {
-        match act(code, table, inputs, b, memory, words, &mut r, x, notes) {
+        match act::<P, ON>(code, table, inputs, b, memory, words, &mut r, x, notes) {
             Act::Goes => x = fetch(instrs, r.at),
             last => {
                 registers.at = r.at;

@@ -8,7 +8,7 @@ ghost use Rattle.version_map.specs.Overlay.{under};
 ghost use Rattle.block_run.specs.Area.{count};
 ghost use Rattle.block_run.specs.Standing.{leaves_block};
 ghost use Rattle.leg_run.specs.Ends.{LegEnds, TurnsTo};
-ghost use Rattle.leg_run.specs.Noting.{HasNotedLeg, HasPlacesIfOn, RoundTo};
+ghost use Rattle.leg_run.specs.Noting.{HasNotedLeg, HasPlacesIfOn, RoundTo, is_on};
 ghost use Rattle.leg_run.specs.Standing.{IsStanding, Stands, state_of};
 
 use crate::apply_fun::apply;
@@ -72,7 +72,7 @@ fn turn_at<P: Snapshot>(
 
 /// Does instructions of a block, and then the one that leaves it, or ends the leg there; with notes
 /// of what they read where notes are on.
-fn go_on<P: Snapshot>(
+fn go_on<P: Snapshot, const ON: bool>(
     setting: &CodeSetting,
     memory: &mut Memory<P>,
     run: &mut Run,
@@ -84,6 +84,7 @@ fn go_on<P: Snapshot>(
         (under memory.old.delta (P.base memory.old.snapshot)) (at memory.old.first.roots) c }
     requires places { HasPlacesIfOn (count setting.now.code.vars) setting.now.inputs.items
         notes.old }
+    requires on { is_on notes.old ≡ ON }
     ensures rounds { IfOk result (λ t. (c : State ℕ)
         → Stands setting.now.code setting.now.inputs.items setting.now.share run.old
         (under memory.old.delta (P.base memory.old.snapshot)) (at memory.old.first.roots) c
@@ -97,7 +98,7 @@ fn go_on<P: Snapshot>(
     let table = setting.table.as_slice();
     let inputs = setting.inputs.as_slice();
     let words = run.words.as_mut_slice();
-    match run_leg_block(
+    match run_leg_block::<P, ON>(
         &setting.code,
         table,
         inputs,
@@ -112,10 +113,11 @@ fn go_on<P: Snapshot>(
     }
 }
 
-/// Does the instructions of a leg up to its event, and notes what they read where notes are on. The
-/// error is want of memory, after which nothing is said of where the revision stands, and
+/// Does the instructions of a leg up to its event, and notes what they read where notes are on, which
+/// `ON` says: so the compiler makes a loop of each case, and that of a leg without notes looks at
+/// none. The error is want of memory, after which nothing is said of where the revision stands, and
 /// nothing of the notes.
-pub fn run<P: Snapshot>(
+pub fn run<P: Snapshot, const ON: bool>(
     setting: &CodeSetting,
     revision: &mut RunningRevision<P>,
     notes: &mut Notes,
@@ -126,6 +128,7 @@ pub fn run<P: Snapshot>(
         (at revision.old.memory.first.roots) }
     requires places { HasPlacesIfOn (count setting.now.code.vars) setting.now.inputs.items
         notes.old }
+    requires on { is_on notes.old ≡ ON }
     ensures leg { IfOk result (λ e.
         LegEnds setting.now.code setting.now.inputs.items setting.now.share
         (state_of setting.now.code revision.old.run
@@ -142,7 +145,7 @@ pub fn run<P: Snapshot>(
     ensures group { P.group revision.new.memory.snapshot ≡ P.group revision.old.memory.snapshot }
 {
     loop {
-        match go_on(setting, &mut revision.memory, &mut revision.run, notes)? {
+        match go_on::<P, ON>(setting, &mut revision.memory, &mut revision.run, notes)? {
             BlockExit::Goes => {},
             BlockExit::Ends(end) => return Ok(end),
         }

@@ -35,7 +35,7 @@ pub(crate) fn run_plain<P: Snapshot>(
     ensures group { P.group revision.new.memory.snapshot ≡ P.group revision.old.memory.snapshot }
 {
     let mut notes = Notes::Off;
-    run(setting, revision, &mut notes)
+    run::<P, false>(setting, revision, &mut notes)
 }
 
 /// Does as `run_plain` does, and notes what the leg reads. The notes move into the run and back, and
@@ -68,7 +68,7 @@ pub(crate) fn run_noting<P: Snapshot>(
     ensures group { P.group revision.new.memory.snapshot ≡ P.group revision.old.memory.snapshot }
 {
     let mut notes = Notes::going_on(alloc, noted)?;
-    let end = run(setting, revision, &mut notes);
+    let end = run::<P, true>(setting, revision, &mut notes);
     notes.give_back(noted);
     end
 }

@@ -143,13 +143,13 @@ loop-x-preserved g c =
       kept = λ h.
           let q = c.requires.stands in
           let a = v.ahead q.0 q.1 q.2 in
-          kept_on _ _ _ _ _ _ _ _ v.size (v.kept h)
+          kept_on v.size (v.kept h)
           (quiet c.args.code.now c.requires.accepted c.args.inputs.now c.requires.inputs q.0 c.args.b.now a.now
           c.loop-x.words c.loop-x.r _ _ a.here is _ at c.act.new.words c.act.new.r _ _ _
           (few_locations _ _ _ _ v.size c.requires.size a.here.many) e.int h stop.Goes e.does e.stays);
       block = e.stays.block ∙ v.block;
       base = e.stays.base ∙ v.base;
-      below = below_still _ _ _ _ _ v.base e.stays.below v.below;
+      below = below_still _ _ _ v.base e.stays.below v.below;
       size = e.size ∙ v.size;
       group = e.group ∙ v.group;
     }
@@ -177,13 +177,13 @@ returns-in_default g c =
       kept = λ h.
           let q = c.requires.stands in
           let a = v.ahead q.0 q.1 q.2 in
-          kept_on _ _ _ _ _ _ _ _ v.size (v.kept h)
+          kept_on v.size (v.kept h)
           (quiet c.args.code.now c.requires.accepted c.args.inputs.now c.requires.inputs q.0 c.args.b.now a.now
           c.loop-x.words c.loop-x.r _ _ a.here is _ at c.act.new.words c.act.new.r _ _ _
           (few_locations _ _ _ _ v.size c.requires.size a.here.many) e.int h (stop_of c.act.result) e.does e.stays);
       block = ap (λ (r : Registers). r.block) was;
       base = ap (λ (r : Registers). r.base) was;
-      below = below_still _ _ _ _ _ v.base e.stays.below v.below;
+      below = below_still _ _ _ v.base e.stays.below v.below;
       size = e.size ∙ v.size;
       group = e.group ∙ v.group;
     }

@@ -91,7 +91,7 @@ returns-in-Traps-clause-value g t c = λ args given.
 
 pub returns-in-Traps-clause-kept : goal.returns-in-Traps-clause-kept
 returns-in-Traps-clause-kept g t c =
-    kept_on _ _ _ _ _ _ _ _ c.loop-cause.invariant.size c.loop-cause.invariant.kept
+    kept_on c.loop-cause.invariant.size c.loop-cause.invariant.kept
     (c.run_block.ensures.kept
     (class_of c.args.code.now c.args.n c.block_at-b.result.now c.block_at-b.ensures c.requires.value))
 
@@ -130,8 +130,8 @@ returns-in-Gives g t c = record {
       (gives c.args.code.now c.requires.accepted c.args.n c.block_at-b.result.now c.block_at-b.ensures
       (class_of c.args.code.now c.args.n c.block_at-b.result.now c.block_at-b.ensures c.requires.value) args kinds
       c.run_block.new.words c.run_block.new.registers _ _ on c.in-Gives.ensures);
-  below = below_still _ _ _ _ _ c.loop-cause.invariant.base c.run_block.ensures.below c.loop-cause.invariant.below;
-  kept = kept_on _ _ _ _ _ _ _ _ c.loop-cause.invariant.size c.loop-cause.invariant.kept
+  below = below_still _ _ _ c.loop-cause.invariant.base c.run_block.ensures.below c.loop-cause.invariant.below;
+  kept = kept_on c.loop-cause.invariant.size c.loop-cause.invariant.kept
       (c.run_block.ensures.kept
       (class_of c.args.code.now c.args.n c.block_at-b.result.now c.block_at-b.ensures c.requires.value));
   size = c.run_block.ensures.size ∙ c.loop-cause.invariant.size;
@@ -391,9 +391,9 @@ returns-in-Err g t c =
           (c.in-Err.ensures.value (reverse (take (length (params c.block_at.result.now)) on.now.stack)) there);
       below = take_shorter c.evaluate.new.words c.run_block.new.words
           (c.run_block.new.registers.top - c.params_of.result) c.args.low beneath c.evaluate.ensures.below
-          ∙ below_still _ _ _ _ _ c.loop-cause.invariant.base c.run_block.ensures.below c.loop-cause.invariant.below;
-      kept = kept_on _ _ _ _ _ _ _ _ (c.run_block.ensures.size ∙ c.loop-cause.invariant.size)
-          (kept_on _ _ _ _ _ _ _ _ c.loop-cause.invariant.size c.loop-cause.invariant.kept
+          ∙ below_still _ _ _ c.loop-cause.invariant.base c.run_block.ensures.below c.loop-cause.invariant.below;
+      kept = kept_on (c.run_block.ensures.size ∙ c.loop-cause.invariant.size)
+          (kept_on c.loop-cause.invariant.size c.loop-cause.invariant.kept
           (c.run_block.ensures.kept
           (class_of c.args.code.now c.args.n c.block_at-b.result.now c.block_at-b.ensures c.requires.value)))
           c.evaluate.ensures.kept;
@@ -522,9 +522,9 @@ loop-cause-preserved g t c =
           c.in-Ok.value beneath
           ∙ take_shorter c.evaluate.new.words c.run_block.new.words (c.run_block.new.registers.top - c.params_of.result)
           c.args.low beneath c.evaluate.ensures.below
-          ∙ below_still _ _ _ _ _ c.loop-cause.invariant.base c.run_block.ensures.below c.loop-cause.invariant.below;
-      kept = kept_on _ _ _ _ _ _ _ _ (c.run_block.ensures.size ∙ c.loop-cause.invariant.size)
-          (kept_on _ _ _ _ _ _ _ _ c.loop-cause.invariant.size c.loop-cause.invariant.kept
+          ∙ below_still _ _ _ c.loop-cause.invariant.base c.run_block.ensures.below c.loop-cause.invariant.below;
+      kept = kept_on (c.run_block.ensures.size ∙ c.loop-cause.invariant.size)
+          (kept_on c.loop-cause.invariant.size c.loop-cause.invariant.kept
           (c.run_block.ensures.kept
           (class_of c.args.code.now c.args.n c.block_at-b.result.now c.block_at-b.ensures c.requires.value)))
           c.evaluate.ensures.kept;

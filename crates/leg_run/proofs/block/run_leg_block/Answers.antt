@@ -11,7 +11,7 @@ use Rattle.block_run.specs.Standing.{Mode}
 use Rattle.block_run.specs.Stops.{stop_of}
 use Rattle.block_run.specs.declared.notes.Notes.{Notes}
 use Rattle.leg_run.specs.Runs.{EndsNoting}
-use Rattle.leg_run.proofs.IfOn.{none_marked_if_on, places_still}
+use Rattle.leg_run.proofs.IfOn.{none_marked_if_on, on_still, places_still}
 use Rattle.leg_run.proofs.Rounds.{onward_noting, ended_noting}
 use Rattle.block_run.proofs.Loops.{few_locations, not_goes, roomy_still, same_registers}
 use Rattle.block_run.proofs.Turning.{inside_now, found_operand, placed, room, smaller, all_same, below_still}
@@ -135,7 +135,7 @@ loop-x-preserved g c =
           (few_locations _ _ _ _ v.size c.requires.size a.here.many) e.int a.same e.does e.stays;
       block = e.stays.block ∙ v.block;
       base = e.stays.base ∙ v.base;
-      below = below_still _ _ _ _ _ v.base e.stays.below v.below;
+      below = below_still _ _ _ v.base e.stays.below v.below;
       size = e.size ∙ v.size;
       group = e.group ∙ v.group;
     }
@@ -146,6 +146,11 @@ act-requires-clause-places g c =
     let v = c.loop-x.invariant in
     places_still _ _ c.args.inputs.now c.args.notes.now c.loop-x.notes _ (v.size ∙ c.requires.size)
     (v.ahead q.0 q.1 q.2).noted c.requires.places
+
+pub act-requires-clause-on : goal.act-requires-clause-on
+act-requires-clause-on g c =
+    let q = c.requires.stands in
+    on_still c.args.notes.now c.loop-x.notes _ (c.loop-x.invariant.ahead q.0 q.1 q.2).noted ∙ c.requires.on
 
 pub returns-in_default : goal.returns-in_default
 returns-in_default g c =
@@ -171,7 +176,7 @@ returns-in_default g c =
           (not_goes c.act.result c.in_default.not-Goes));
       block = ap (λ (r : Registers). r.block) was;
       base = ap (λ (r : Registers). r.base) was;
-      below = below_still _ _ _ _ _ v.base e.stays.below v.below;
+      below = below_still _ _ _ v.base e.stays.below v.below;
       size = e.size ∙ v.size;
       group = e.group ∙ v.group;
     }

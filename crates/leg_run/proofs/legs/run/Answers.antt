@@ -5,7 +5,7 @@ use Rattle.version_map.specs.Deltas.{at}
 use Rattle.version_map.specs.Overlay.{under}
 use Rattle.block_run.specs.Area.{count}
 use Rattle.leg_run.specs.Runs.{reads_of}
-use Rattle.leg_run.proofs.IfOn.{none_marked_if_on, places_still}
+use Rattle.leg_run.proofs.IfOn.{none_marked_if_on, on_still, places_still}
 use Rattle.leg_run.specs.Noting.{RoundTo, marks_of}
 use Rattle.leg_run.specs.Standing.{state_of}
 use Rattle.leg_run.proofs.NotedLegs.{leg_noted, round_on_noting}
@@ -72,6 +72,11 @@ go_on-requires-clause-places g c =
     let a = c.loop-end.invariant.ahead in
     places_still (count c.args.setting.now.code.vars) (count c.args.setting.now.code.vars) c.args.setting.now.inputs.items
     c.args.notes.now c.loop-end.notes (marks_of (reads_of a.1)) refl a.3 c.requires.places
+
+pub go_on-requires-clause-on : goal.go_on-requires-clause-on
+go_on-requires-clause-on g c =
+    let a = c.loop-end.invariant.ahead in
+    on_still c.args.notes.now c.loop-end.notes (marks_of (reads_of a.1)) a.3 ∙ c.requires.on
 
 pub returns-in-Ends-clause-leg : goal.returns-in-Ends-clause-leg
 returns-in-Ends-clause-leg g c =

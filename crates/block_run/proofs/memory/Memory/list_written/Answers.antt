@@ -64,7 +64,7 @@ loop-location-preserved g c =
     record {
       within = omega (arith, small);
       written = c.push_reserved.ensures.items ∙ (λ j. before j ++ there j) ∙ one_more seen root l;
-      kept = kept_on _ _ _ _ _ _ _ _ inv.size inv.kept c.written_at.ensures.kept;
+      kept = kept_on inv.size inv.kept c.written_at.ensures.kept;
       room = c.push_reserved.ensures.capacity ∙ inv.room;
       size = c.written_at.ensures.size ∙ inv.size;
       group = c.written_at.ensures.group ∙ inv.group;
