@@ -5,9 +5,9 @@ use Rattle.hub_core.specs.Hub.{Stands}
 use Rattle.hub_core.specs.HubMachine.{HubMachine, numbered, values}
 use Rattle.hub_core.specs.declared.view.View.{View}
 use Rattle.hub_core.specs.Seats.{HasState, HasEnd, KeepsOthers}
-use Rattle.turn_hub.specs.declared.answers.JoinAnswer.{JoinAnswer}
-use Rattle.turn_hub.specs.declared.answers.JoinAnswer.TheVariants as join
-use Rattle.turn_hub.specs.Answers.{Forked, TakesIn}
+use Rattle.hub_answers.specs.declared.answers.JoinAnswer.{JoinAnswer}
+use Rattle.hub_answers.specs.declared.answers.JoinAnswer.TheVariants as join
+use Rattle.hub_answers.specs.Answers.{Forked, TakesIn}
 use Rattle.hub_workers.specs.declared.legs.LegEvent.{LegEvent}
 use Rattle.hub_workers.specs.declared.legs.LegEvent.TheVariants as event
 use Rattle.hub_workers.specs.declared.next.Behind.{Behind}

@@ -7,7 +7,7 @@ use Rattle.hub_core.specs.declared.view.View.{View}
 use Rattle.hub_core.specs.Passes.{IsPass}
 use Rattle.hub_core.specs.Seats.{HasState, IsSameSeat}
 use Rattle.hub_core.specs.Views.{sees}
-use Rattle.turn_hub.specs.Keeping.{ForkedOn, KeptBehind, HandedBack}
+use Rattle.hub_answers.specs.Keeping.{ForkedOn, KeptBehind, HandedBack}
 use Rattle.hub_workers.specs.Work.{Keeps}
 use Rattle.hub_workers.specs.Handed.{IsAlone, IsPair}
 use Rattle.hub_workers.proofs.Events.{forks_leg}

@@ -4,18 +4,18 @@ use Rattle.revision_machine.specs.Numbered.{Bears, put_number}
 use Rattle.revision_machine.proofs.Paths.{some_inj}
 use Rattle.hub_core.specs.Hub.{Stands}
 use Rattle.hub_core.specs.HubMachine.{HubMachine, numbered, values}
-use Rattle.turn_hub.specs.declared.answers.EndStep.{EndStep}
-use Rattle.turn_hub.specs.declared.answers.EndStep.TheVariants as ending
-use Rattle.turn_hub.specs.declared.answers.JoinAnswer.{JoinAnswer}
-use Rattle.turn_hub.specs.declared.answers.JoinAnswer.TheVariants as join
-use Rattle.turn_hub.specs.declared.answers.Onward.{Onward}
-use Rattle.turn_hub.specs.declared.answers.Onward.TheVariants as onward
+use Rattle.hub_answers.specs.declared.answers.EndStep.{EndStep}
+use Rattle.hub_answers.specs.declared.answers.EndStep.TheVariants as ending
+use Rattle.hub_answers.specs.declared.answers.JoinAnswer.{JoinAnswer}
+use Rattle.hub_answers.specs.declared.answers.JoinAnswer.TheVariants as join
+use Rattle.hub_answers.specs.declared.answers.Onward.{Onward}
+use Rattle.hub_answers.specs.declared.answers.Onward.TheVariants as onward
 use Rattle.hub_core.specs.declared.view.Said.{Said}
 use Rattle.hub_core.specs.declared.view.Said.TheVariants as mark
 use Rattle.hub_core.specs.declared.view.View.{View}
 use Rattle.hub_core.specs.Seats.{HasState, HasFork, HasJoin, HasEnd, HasTrap, IsSameSeat}
 use Rattle.hub_core.specs.Views.{sees}
-use Rattle.turn_hub.specs.Answers.{EndedOn, EndStepSays, JoinSays, OnwardSays, WaitedOn}
+use Rattle.hub_answers.specs.Answers.{EndedOn, EndStepSays, JoinSays, OnwardSays, WaitedOn}
 use Rattle.hub_workers.specs.declared.legs.LegEvent.TheVariants as event
 use Rattle.hub_workers.specs.Legs.{IsReached, HaveMet, Comes, IsEndBy, IsSameHand}
 use Rattle.hub_workers.specs.Nexts.{of_onward, of_step}

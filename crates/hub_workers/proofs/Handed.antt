@@ -12,13 +12,13 @@ use Rattle.hub_core.specs.declared.view.View.{View}
 use Rattle.hub_core.specs.Passes.{IsPass}
 use Rattle.hub_core.specs.Seats.{KeepsAll, KeepsOthers, LacksPass}
 use Rattle.hub_core.specs.Views.{or_no_memory, sees}
-use Rattle.turn_hub.specs.declared.answers.EndStep.{EndStep}
-use Rattle.turn_hub.specs.declared.answers.EndStep.TheVariants as ending
-use Rattle.turn_hub.specs.declared.answers.JoinAnswer.{JoinAnswer}
-use Rattle.turn_hub.specs.declared.answers.JoinAnswer.TheVariants as join
-use Rattle.turn_hub.specs.declared.answers.Onward.{Onward}
-use Rattle.turn_hub.specs.declared.answers.Onward.TheVariants as onward
-use Rattle.turn_hub.specs.Answers.{EndedOn, EndStepSays, IsHalted, JoinSays, OnwardSays, WaitedOn}
+use Rattle.hub_answers.specs.declared.answers.EndStep.{EndStep}
+use Rattle.hub_answers.specs.declared.answers.EndStep.TheVariants as ending
+use Rattle.hub_answers.specs.declared.answers.JoinAnswer.{JoinAnswer}
+use Rattle.hub_answers.specs.declared.answers.JoinAnswer.TheVariants as join
+use Rattle.hub_answers.specs.declared.answers.Onward.{Onward}
+use Rattle.hub_answers.specs.declared.answers.Onward.TheVariants as onward
+use Rattle.hub_answers.specs.Answers.{EndedOn, EndStepSays, IsHalted, JoinSays, OnwardSays, WaitedOn}
 use Rattle.hub_workers.specs.Handed.{HasHandedIn, IsAlone, OnlyAnswer, OnlyNext}
 use Rattle.hub_workers.specs.Nexts.{of_onward, of_step}
 use Rattle.hub_workers.specs.declared.next.Behind.TheVariants as behind

@@ -12,7 +12,7 @@ use Rattle.hub_core.specs.Passes.{IsPass}
 use Rattle.hub_core.specs.Seats.{HasPass, HasState, HasJoin, HasEnd, HasTrap, IsSameSeat, KeepsOthers, LacksPass}
 use Rattle.hub_core.specs.Views.{sees}
 use Rattle.hub_core.proofs.Worlds.{claimed}
-use Rattle.turn_hub.specs.Answers.{Forked, ForkedBehind, HaltedBehind, IsHalted, Settled, TookJoinee, Waited}
+use Rattle.hub_answers.specs.Answers.{Forked, ForkedBehind, HaltedBehind, IsHalted, Settled, TookJoinee, Waited}
 use Rattle.hub_workers.specs.declared.legs.LegEvent.TheVariants as event
 use Rattle.hub_workers.specs.Legs.{IsReached, Comes, EndsHere}
 use Rattle.hub_workers.specs.Work.{IsHandOf, HasMetOnce, StaysFor, IsOwing}

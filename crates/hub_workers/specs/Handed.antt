@@ -10,8 +10,8 @@ use Rattle.std.specs.Prelude.{◌≡◌, ◌⊎◌, ℕ, List}
 use Rattle.hub_core.specs.declared.state.HubState.TheVariants.{All}
 use Rattle.hub_core.specs.declared.view.View.{View}
 use Rattle.hub_core.specs.Passes.{IsPass}
-use Rattle.turn_hub.specs.declared.answers.JoinAnswer.{JoinAnswer}
-use Rattle.turn_hub.specs.declared.answers.JoinAnswer.TheVariants as join
+use Rattle.hub_answers.specs.declared.answers.JoinAnswer.{JoinAnswer}
+use Rattle.hub_answers.specs.declared.answers.JoinAnswer.TheVariants as join
 use Rattle.hub_workers.specs.declared.next.Behind.{Behind}
 use Rattle.hub_workers.specs.declared.next.Behind.TheVariants as behind
 use Rattle.hub_workers.specs.declared.next.Next.{Next}

@@ -3,10 +3,10 @@
 --   of_onward   behind a joiner that waits
 --   of_step     behind an end
 use Rattle.std.specs.Prelude.{ℕ}
-use Rattle.turn_hub.specs.declared.answers.EndStep.{EndStep}
-use Rattle.turn_hub.specs.declared.answers.EndStep.TheVariants as ending
-use Rattle.turn_hub.specs.declared.answers.Onward.{Onward}
-use Rattle.turn_hub.specs.declared.answers.Onward.TheVariants as onward
+use Rattle.hub_answers.specs.declared.answers.EndStep.{EndStep}
+use Rattle.hub_answers.specs.declared.answers.EndStep.TheVariants as ending
+use Rattle.hub_answers.specs.declared.answers.Onward.{Onward}
+use Rattle.hub_answers.specs.declared.answers.Onward.TheVariants as onward
 use Rattle.hub_workers.specs.declared.next.Behind.TheVariants as behind
 use Rattle.hub_workers.specs.declared.next.Next.{Next}
 use Rattle.hub_workers.specs.declared.next.Next.TheVariants as next

@@ -13,13 +13,13 @@
 --   HasNext        the seat has the revision that the thread goes on with
 use Rattle.std.specs.Prelude.{◌≡◌, ◌≢◌, ℕ, List, [], Some, true, false}
 use Rattle.hub_core.specs.HubMachine.{HubMachine, numbered}
-use Rattle.turn_hub.specs.declared.answers.JoinAnswer.{JoinAnswer}
-use Rattle.turn_hub.specs.declared.answers.JoinAnswer.TheVariants as join
+use Rattle.hub_answers.specs.declared.answers.JoinAnswer.{JoinAnswer}
+use Rattle.hub_answers.specs.declared.answers.JoinAnswer.TheVariants as join
 use Rattle.hub_core.specs.declared.view.View.{View}
 use Rattle.hub_core.specs.Replay.{state_after}
 use Rattle.hub_core.specs.Seats.{HasState, HasJoin, HasWorld, Owes}
 use Rattle.hub_core.specs.Views.{sees}
-use Rattle.turn_hub.specs.Answers.{HasMet}
+use Rattle.hub_answers.specs.Answers.{HasMet}
 use Rattle.hub_workers.specs.declared.next.Behind.{Behind}
 use Rattle.hub_workers.specs.declared.next.Behind.TheVariants as behind
 use Rattle.hub_workers.specs.declared.next.Next.{Next}

@@ -1,54 +1,22 @@
 //! How a seat with the turn forks behind the end of a joinee and its join, where the child goes to
 //! the hub.
-ghost use Rattle.std.specs.Prelude.{◌≡◌, ◌<◌, ◌≤◌, ℕ, [], true, length, Some, None, IfOk, IfErr};
+ghost use Rattle.std.specs.Prelude.{◌≡◌, ◌<◌, ℕ, [], Some, None, IfOk, IfErr};
 ghost use Rattle.revision_machine.specs.Numbered.{Bears};
 ghost use Rattle.hub_core.specs.declared.state.HubState.TheVariants.{All};
-ghost use Rattle.hub_core.specs.Journaled.{HasRoomFor};
-ghost use Rattle.turn_hub.specs.Plans.{HasMoreRoom, behind_deeds, lone_of};
 
-use crate::forked::Forking;
 use crate::hub::TurnHub;
-use crate::kept::{note_keep, number_if, settle_value};
 use crate::seat::{HubSeat, Place};
-use hub_core::{Deed, Desk, Plan, Revision, Sight};
+use hub_answers::{Forking, make_behind, note_keep, plan_behind, settle_value};
+use hub_core::{Desk, Revision, Sight};
 use std::sync::Wait;
-
-// The end of the joinee, its join by `of`, and the fork of that.
-fn plan_behind(plan: &mut Plan, joinee: u32, of: u32, lone: bool)
-    ensures deeds { plan.new.deeds.items ≡ behind_deeds joinee of }
-    ensures kept { (plan.new.leaves ≡ lone_of lone joinee) × (plan.new.keeps ≡ None) }
-    ensures forks { plan.new.forks ≡ of }
-{
-    plan.clear();
-    plan.add(Deed::Commits(joinee));
-    plan.add(Deed::HandsIn(joinee));
-    plan.add(Deed::Commits(of));
-    plan.add(Deed::Commits(of));
-    plan.leaves = number_if(lone, joinee);
-    plan.forks = of;
-}
-
-// Room for the entries, and for the record of the child.
-fn make_behind<R, A, E>(desk: &mut Desk<R, A, E>, number: u32) -> bool
-    requires queue { (length desk.old.records.queue.links.items
-        ≡ length desk.old.records.list.items)
-        × (length desk.old.records.list.items ≤ length desk.old.records.queue.waiters.items) }
-    ensures same { HasMoreRoom desk.old desk.new }
-    ensures room { result ≡ true → HasRoomFor 3 desk.new.journal }
-    ensures reach { result ≡ true → number < length desk.new.records.list.items }
-{
-    let room = desk.journal.reserve(3);
-    let reach = desk.records.reach(number);
-    room && reach
-}
 
 impl<L: Revision> TurnHub<L> {
     ghost use Rattle.hub_core.specs.Seats.{HadTurn, Owes};
     ghost use Rattle.hub_core.specs.Tally.{HasDesk};
-    ghost use Rattle.turn_hub.specs.Answers.{ForkedBehind, HaltedBehind, IsHalted};
-    ghost use Rattle.turn_hub.specs.Turns.{IsOpen, IsIn, IsResting};
-    ghost use Rattle.turn_hub.specs.Plans.{lone_list};
-    ghost use Rattle.turn_hub.specs.Forkings.{BehindSays};
+    ghost use Rattle.hub_answers.specs.Answers.{ForkedBehind, HaltedBehind, IsHalted};
+    ghost use Rattle.hub_answers.specs.Turns.{IsOpen, IsIn, IsResting};
+    ghost use Rattle.hub_answers.specs.Plans.{lone_list};
+    ghost use Rattle.hub_answers.specs.Forkings.{BehindSays};
 
     // One try to enter the end of the joinee, its join by `of` and the fork of that at one moment.
     fn try_behind(

@@ -1,15 +1,15 @@
 //! The calls in a turn.
 ghost use Rattle.std.specs.Prelude.{◌≡◌, Some, IfErr, OnOk, MatchBool};
 
-use crate::answers::{Onward, Taken};
 use crate::hub::TurnHub;
 use crate::seat::HubSeat;
+use hub_answers::{Onward, Taken};
 use hub_core::Revision;
 use std::sync::Wait;
 
 impl<L: Revision> TurnHub<L> {
     ghost use Rattle.hub_core.specs.Seats.{HasEnd, HasTrap, HadTurn};
-    ghost use Rattle.turn_hub.specs.Answers.{EndedSays, IsHalted, TakenSays};
+    ghost use Rattle.hub_answers.specs.Answers.{EndedSays, IsHalted, TakenSays};
 
     /// Takes a revision that is ready, if there is one.
     /// Idle: nothing is ready, and something is unfinished. Finished: nothing is unfinished.

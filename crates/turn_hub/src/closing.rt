@@ -7,7 +7,7 @@ ghost use Rattle.hub_core.specs.Woven.{triples};
 ghost use Rattle.hub_core.specs.Ordered.{all_rounds};
 ghost use Rattle.turn_hub.specs.Closing.{IsClosed, IsKeptRun};
 ghost use Rattle.turn_hub.specs.Seats.{first_of, AreOf, AreBehind};
-ghost use Rattle.turn_hub.specs.Turns.{IsIdle};
+ghost use Rattle.hub_answers.specs.Turns.{IsIdle};
 ghost use Rattle.turn_hub.specs.Closing.{saw_of, halt_known, held_by, ClosedDesk};
 
 mod order;

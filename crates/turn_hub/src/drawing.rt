@@ -1,38 +1,17 @@
 //! How a seat takes what is ready.
-ghost use Rattle.std.specs.Prelude.{◌≡◌, [], ◌∷◌, None};
+ghost use Rattle.std.specs.Prelude.{◌≡◌};
 ghost use Rattle.hub_core.specs.declared.state.HubState.TheVariants.{All};
-ghost use Rattle.hub_core.specs.declared.deed.Deed.TheVariants.{Draws};
-ghost use Rattle.hub_core.specs.Marks.{first_in};
-ghost use Rattle.turn_hub.specs.declared.answers.Onward.TheVariants.{Nothing};
+ghost use Rattle.hub_answers.specs.declared.answers.Onward.TheVariants.{Nothing};
 
-use crate::answers::Onward;
 use crate::hub::TurnHub;
 use crate::seat::Place;
-use hub_core::{Deed, Desk, Plan, Revision, RunQueue, Sight, Status, empty};
-
-/// The first number that is ready.
-pub(crate) fn first_ready(queue: &RunQueue) -> Option<u32>
-    ensures { result ≡ first_in queue.now.ready }
-{
-    match queue.ready {
-        None => None,
-        Some(chain) => Some(chain.first),
-    }
-}
-
-/// A revision that no seat has is taken.
-pub(crate) fn plan_draw(plan: &mut Plan, number: u32)
-    ensures { (plan.new.deeds.items ≡ Draws number ∷ []) × (plan.new.leaves ≡ None)
-        × (plan.new.keeps ≡ None) }
-{
-    plan.clear();
-    plan.add(Deed::Draws(number));
-}
+use hub_answers::{Onward, first_ready, plan_draw};
+use hub_core::{Desk, Revision, Sight, Status, empty};
 
 impl<L: Revision> TurnHub<L> {
-    ghost use Rattle.turn_hub.specs.Answers.{OnwardSays};
-    ghost use Rattle.turn_hub.specs.Turns.{IsOpen, IsIn, IsResting};
-    ghost use Rattle.turn_hub.specs.Nones.{NoneSays};
+    ghost use Rattle.hub_answers.specs.Answers.{OnwardSays};
+    ghost use Rattle.hub_answers.specs.Turns.{IsOpen, IsIn, IsResting};
+    ghost use Rattle.hub_answers.specs.Nones.{NoneSays};
 
     // Takes the first that is ready, and gives the turn back.
     pub(crate) fn take_next(

@@ -1,64 +1,26 @@
 //! How the end of a revision is handed in where the seat goes on in the same turn with what comes
 //! first.
-ghost use Rattle.std.specs.Prelude.{◌≡◌, ◌≤◌, ◌+◌, ◌++◌, ℕ, [], None, MatchBool, IfOk, IfErr, vec_len};
+ghost use Rattle.std.specs.Prelude.{◌≡◌, ◌+◌, ◌++◌, [], None, MatchBool, IfOk, IfErr};
 ghost use Rattle.hub_core.specs.declared.state.HubState.TheVariants.{All};
 ghost use Rattle.hub_core.specs.Journaled.{HasRoomFor};
-ghost use Rattle.hub_core.specs.Rounds.{stamped};
-ghost use Rattle.hub_core.specs.Tally.{pairs, entered};
-ghost use Rattle.turn_hub.specs.declared.coming.Coming.TheVariants.{Stops};
-ghost use Rattle.turn_hub.specs.Plans.{HasPlan, end_deeds};
-ghost use Rattle.turn_hub.specs.Comings.{IsComing, IsNoStop, coming_deeds};
+ghost use Rattle.hub_core.specs.Tally.{entered};
+ghost use Rattle.hub_answers.specs.declared.coming.Coming.TheVariants.{Stops};
+ghost use Rattle.hub_answers.specs.Plans.{HasPlan, end_deeds};
+ghost use Rattle.hub_answers.specs.Comings.{IsComing, IsNoStop, coming_deeds};
 
-use crate::answers::{EndStep, JoinAnswer, Onward};
-use crate::coming::Coming;
-use crate::ending::{counted, note_end};
-use crate::firsts::{coming_after, go_on, plan_coming, take_first};
 use crate::hub::TurnHub;
 use crate::seat::{HubSeat, Place};
-use hub_core::{Deed, Desk, HubState, Journal, Plan, Revision, Sight, empty};
+use hub_answers::{
+    Coming, EndStep, JoinAnswer, Onward, coming_after, counted, go_on, note_end_on, plan_end_on,
+    take_first,
+};
+use hub_core::{Desk, HubState, Revision, Sight, empty};
 use std::sync::Wait;
-
-// The end of a revision that the seat has, and what comes then.
-fn plan_end_on(plan: &mut Plan, of: u32, by_join: bool, coming: Coming)
-    ensures { (plan.new.deeds.items ≡ end_deeds by_join of ++ coming_deeds coming)
-        × (plan.new.leaves ≡ None) × (plan.new.keeps ≡ None) }
-{
-    plan.clear();
-    if !by_join {
-        plan.add(Deed::Commits(of));
-    }
-    plan.add(Deed::HandsIn(of));
-    plan_coming(plan, coming);
-}
-
-// The entry of what comes, where that is a joiner.
-fn note_coming<E>(journal: &mut Journal<E>, count: u32, coming: Coming)
-    requires { HasRoomFor 1 journal.old }
-    ensures entries { pairs journal.new.entries.items
-        ≡ pairs journal.old.entries.items ++ stamped count (entered (coming_deeds coming)) }
-    ensures limit { journal.new.limit ≡ journal.old.limit }
-{
-    match coming {
-        Coming::Nobody | Coming::Takes(_) => {},
-        Coming::Claims { number, .. } | Coming::Stops(number) => journal.enter(count, number),
-    }
-}
-
-// The entries of the end and of what comes.
-fn note_end_on<E>(journal: &mut Journal<E>, count: u32, of: u32, by_join: bool, coming: Coming)
-    requires { HasRoomFor 2 journal.old }
-    ensures entries { pairs journal.new.entries.items ≡ pairs journal.old.entries.items
-        ++ stamped count (entered (end_deeds by_join of ++ coming_deeds coming)) }
-    ensures limit { journal.new.limit ≡ journal.old.limit }
-{
-    note_end(journal, count, of, by_join);
-    note_coming(journal, count, coming);
-}
 
 impl<L: Revision> TurnHub<L> {
     ghost use Rattle.hub_core.specs.Seats.{HasEnd, HasTrap, HadTurn};
-    ghost use Rattle.turn_hub.specs.Answers.{EndedOn, IsHalted};
-    ghost use Rattle.turn_hub.specs.Turns.{IsOpen, IsIn, IsResting};
+    ghost use Rattle.hub_answers.specs.Answers.{EndedOn, IsHalted};
+    ghost use Rattle.hub_answers.specs.Turns.{IsOpen, IsIn, IsResting};
 
     // The plan ends the revision and goes on with what comes first, which does not join Twice. It is
     // carried out, and the turn is given back.

@@ -1,46 +1,19 @@
 //! How a seat forks in a turn, where the child goes to the hub.
-ghost use Rattle.std.specs.Prelude.{◌≡◌, ◌<◌, ◌≤◌, [], true, length, Some, None, IfOk, IfErr};
+ghost use Rattle.std.specs.Prelude.{◌≡◌, ◌<◌, Some, IfOk, IfErr};
 ghost use Rattle.hub_core.specs.declared.state.HubState.TheVariants.{All};
-ghost use Rattle.hub_core.specs.Journaled.{HasRoomFor};
-ghost use Rattle.turn_hub.specs.Plans.{HasMoreRoom, fork_deeds};
 
-use crate::forked::Forking;
 use crate::hub::TurnHub;
 use crate::seat::{HubSeat, Place};
-use hub_core::{Deed, Desk, Plan, Revision, Sight};
+use hub_answers::{Forking, make_birth, plan_fork};
+use hub_core::{Desk, Revision, Sight};
 use std::sync::Wait;
-
-// A fork of this revision.
-fn plan_fork(plan: &mut Plan, of: u32)
-    ensures deeds { plan.new.deeds.items ≡ fork_deeds of }
-    ensures kept { (plan.new.leaves ≡ None) × (plan.new.keeps ≡ None) }
-    ensures forks { plan.new.forks ≡ of }
-{
-    plan.clear();
-    plan.add(Deed::Commits(of));
-    plan.forks = of;
-}
-
-// Room for the entry, and for the record of the child.
-fn make_birth<R, A, E>(desk: &mut Desk<R, A, E>, number: u32) -> bool
-    requires queue { (length desk.old.records.queue.links.items
-        ≡ length desk.old.records.list.items)
-        × (length desk.old.records.list.items ≤ length desk.old.records.queue.waiters.items) }
-    ensures same { HasMoreRoom desk.old desk.new }
-    ensures room { result ≡ true → HasRoomFor 1 desk.new.journal }
-    ensures reach { result ≡ true → number < length desk.new.records.list.items }
-{
-    let room = desk.journal.reserve(1);
-    let reach = desk.records.reach(number);
-    room && reach
-}
 
 impl<L: Revision> TurnHub<L> {
     ghost use Rattle.hub_core.specs.Seats.{HasFork, HadTurn};
     ghost use Rattle.hub_core.specs.Tally.{HasDesk};
-    ghost use Rattle.turn_hub.specs.Answers.{Forked, IsHalted};
-    ghost use Rattle.turn_hub.specs.Turns.{IsOpen, IsIn, IsResting};
-    ghost use Rattle.turn_hub.specs.Forkings.{ForkingSays};
+    ghost use Rattle.hub_answers.specs.Answers.{Forked, IsHalted};
+    ghost use Rattle.hub_answers.specs.Turns.{IsOpen, IsIn, IsResting};
+    ghost use Rattle.hub_answers.specs.Forkings.{ForkingSays};
 
     // One try to enter the fork of a revision that this seat has.
     fn try_fork(

@@ -70,9 +70,9 @@ impl<L: Revision> TurnHub<L> {
     ghost use Rattle.hub_core.specs.declared.state.HubState.TheVariants as state;
     ghost use Rattle.hub_core.specs.declared.desk.DeskSlot.TheVariants.{Home, Away};
     ghost use Rattle.hub_core.specs.Tally.{HasDesk, gives_back, lets_pass, makes_room};
-    ghost use Rattle.turn_hub.specs.Turns.{IsIdle, IsOpen, IsTaken, IsIn};
-    ghost use Rattle.turn_hub.specs.Plans.{CanEnter, CanHalt, IsEntered, IsShut};
-    ghost use Rattle.turn_hub.specs.Joinings.{IsShutAt};
+    ghost use Rattle.hub_answers.specs.Turns.{IsIdle, IsOpen, IsTaken, IsIn};
+    ghost use Rattle.hub_answers.specs.Plans.{CanEnter, CanHalt, IsEntered, IsShut};
+    ghost use Rattle.hub_answers.specs.Joinings.{IsShutAt};
 
     // One try for the turn.
     fn take_turn(&self, place: &mut Place<L>) -> bool

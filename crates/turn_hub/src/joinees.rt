@@ -1,46 +1,19 @@
 //! The calls of a seat whose joiner stayed with it while the joinee ran there. The joiner takes the
 //! end in without a turn, and the seat enters both in its next one.
-ghost use Rattle.std.specs.Prelude.{◌≡◌, ◌++◌, ℕ, [], ◌∷◌, true, false, None};
+ghost use Rattle.std.specs.Prelude.{◌≡◌, [], true, false, None};
 ghost use Rattle.hub_core.specs.declared.state.HubState.TheVariants.{All};
-ghost use Rattle.hub_core.specs.Journaled.{HasRoomFor};
-ghost use Rattle.hub_core.specs.Tally.{pairs};
-ghost use Rattle.turn_hub.specs.Plans.{settle_deeds, lone_of};
 
-use crate::ending::counted;
 use crate::hub::TurnHub;
-use crate::kept::{number_if, settle_value};
 use crate::seat::{HubSeat, Place};
-use hub_core::{Deed, Desk, Journal, Plan, Revision, Sight};
+use hub_answers::{counted, note_settle, plan_settle, settle_value};
+use hub_core::{Desk, Revision, Sight};
 use std::sync::Wait;
-
-// The end of the joinee and its join by `of`.
-fn plan_settle(plan: &mut Plan, joinee: u32, of: u32, lone: bool)
-    ensures { (plan.new.deeds.items ≡ settle_deeds joinee of)
-        × (plan.new.leaves ≡ lone_of lone joinee) × (plan.new.keeps ≡ None) }
-{
-    plan.clear();
-    plan.add(Deed::Commits(joinee));
-    plan.add(Deed::HandsIn(joinee));
-    plan.add(Deed::Commits(of));
-    plan.leaves = number_if(lone, joinee);
-}
-
-// The entries of the joinee and of its joiner.
-fn note_settle<E>(journal: &mut Journal<E>, count: u32, joinee: u32, of: u32)
-    requires { HasRoomFor 2 journal.old }
-    ensures entries { pairs journal.new.entries.items
-        ≡ pairs journal.old.entries.items ++ (count, joinee) ∷ (count, of) ∷ [] }
-    ensures limit { journal.new.limit ≡ journal.old.limit }
-{
-    journal.enter(count, joinee);
-    journal.enter(count, of);
-}
 
 impl<L: Revision> TurnHub<L> {
     ghost use Rattle.hub_core.specs.Seats.{HadTurn, Owes};
-    ghost use Rattle.turn_hub.specs.Answers.{Settled, IsHalted};
-    ghost use Rattle.turn_hub.specs.Turns.{IsOpen, IsIn, IsResting};
-    ghost use Rattle.turn_hub.specs.Plans.{lone_list};
+    ghost use Rattle.hub_answers.specs.Answers.{Settled, IsHalted};
+    ghost use Rattle.hub_answers.specs.Turns.{IsOpen, IsIn, IsResting};
+    ghost use Rattle.hub_answers.specs.Plans.{lone_list};
 
     // The end of the joinee and the join of it by `of`, both of which this seat has: two entries,
     // or for want of memory none. The turn is given back.

@@ -1,35 +1,20 @@
 //! How a joiner takes an end in.
-ghost use Rattle.std.specs.Prelude.{◌≡◌, ◌<◌, [], ◌∷◌, length, Some, None, IfOk, IfErr};
+ghost use Rattle.std.specs.Prelude.{◌≡◌, ◌<◌, [], length, Some, None, IfOk, IfErr};
 ghost use Rattle.hub_core.specs.declared.status.Status.TheVariants.{Over};
 ghost use Rattle.hub_core.specs.declared.state.HubState.TheVariants.{All};
-ghost use Rattle.hub_core.specs.declared.deed.Deed.TheVariants.{Commits};
 ghost use Rattle.hub_core.specs.Tally.{record_at};
 
-use crate::answers::JoinAnswer;
-use crate::ending::counted;
-use crate::handing::reach_waits;
 use crate::hub::TurnHub;
-use crate::joinee::Joinee;
 use crate::seat::Place;
-use crate::seeking::joinee_of;
-use crate::taking_in::take_in;
-use hub_core::{Deed, Desk, HubState, Plan, Revision, Sight, Status, empty};
-
-// The join by this revision.
-fn plan_join(plan: &mut Plan, of: u32)
-    ensures { (plan.new.deeds.items ≡ Commits of ∷ []) × (plan.new.leaves ≡ None)
-        × (plan.new.keeps ≡ None) }
-{
-    plan.clear();
-    plan.add(Deed::Commits(of));
-}
+use hub_answers::{JoinAnswer, Joinee, counted, joinee_of, plan_join, reach_waits, take_in};
+use hub_core::{Desk, HubState, Revision, Sight, Status, empty};
 
 impl<L: Revision> TurnHub<L> {
     ghost use Rattle.hub_core.specs.Seats.{HasJoin};
-    ghost use Rattle.turn_hub.specs.Answers.{HasCome, JoinSays};
-    ghost use Rattle.turn_hub.specs.Turns.{IsOpen, IsIn, IsResting};
-    ghost use Rattle.turn_hub.specs.Joinings.{IsGoneIn, IsOpenIn};
-    ghost use Rattle.turn_hub.specs.Plans.{SameValue};
+    ghost use Rattle.hub_answers.specs.Answers.{HasCome, JoinSays};
+    ghost use Rattle.hub_answers.specs.Turns.{IsOpen, IsIn, IsResting};
+    ghost use Rattle.hub_answers.specs.Joinings.{IsGoneIn, IsOpenIn};
+    ghost use Rattle.hub_answers.specs.Plans.{SameValue};
     ghost use Rattle.hub_core.specs.Tally.{HasDesk, lets_pass};
 
     // The joiner takes in the end of its joinee, of which there is a record: one entry, or for want

@@ -3,9 +3,8 @@ ghost use Rattle.std.specs.Prelude.{◌≡◌, ◌≢◌, ◌<◌, ◌≤◌, �
 ghost use Rattle.revision_machine.specs.Numbered.{Bears};
 
 use crate::hub::{TALLY, TurnHub};
-use crate::kept::number_if;
 use crate::seat::{HubSeat, Place};
-use crate::tried::Tried;
+use hub_answers::{Tried, number_if};
 use hub_core::{Desk, DeskSlot, MakeRound, Revision, Round, Sight, append};
 use std::sync::Wait;
 use std::sync::atomic::Ordering;
@@ -18,10 +17,10 @@ impl<L: Revision> TurnHub<L> {
     ghost use Rattle.hub_core.specs.Seats.{HadTurn, Owes};
     ghost use Rattle.hub_core.specs.Tally.{HasDesk, MadeRound};
     ghost use Rattle.hub_core.specs.declared.state.HubState.TheVariants.{All};
-    ghost use Rattle.turn_hub.specs.Answers.{HaltedBehind, IsHalted};
-    ghost use Rattle.turn_hub.specs.Turns.{IsOpen, IsIn, IsResting};
-    ghost use Rattle.turn_hub.specs.Plans.{lone_list};
-    ghost use Rattle.turn_hub.specs.Keeping.{KeptBehind};
+    ghost use Rattle.hub_answers.specs.Answers.{HaltedBehind, IsHalted};
+    ghost use Rattle.hub_answers.specs.Turns.{IsOpen, IsIn, IsResting};
+    ghost use Rattle.hub_answers.specs.Plans.{lone_list};
+    ghost use Rattle.hub_answers.specs.Keeping.{KeptBehind};
 
     // A round, where there are so many revisions. The tally is as it was found.
     fn try_round(

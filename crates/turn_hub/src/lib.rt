@@ -4,20 +4,15 @@
 //! revisions by numbers. `hub_core` has what lies in the slot, and the rule that each step keeps.
 #![tactic(auto)]
 
-mod answers;
 mod behind;
 mod calls;
 mod closing;
-mod coming;
 mod drawing;
 mod ended_on;
 mod ending;
-mod firsts;
-mod forked;
 mod forking;
 mod handing;
 mod hub;
-mod joinee;
 mod joinees;
 mod joining;
 mod keeping;
@@ -27,14 +22,10 @@ mod opening;
 mod patience;
 mod seat;
 mod seeker;
-mod seeking;
 mod taker;
-mod taking_in;
-mod tried;
 mod turning;
 
-pub use answers::{EndStep, JoinAnswer, JoinStep, Onward, Taken};
 pub use closing::{HubEnd, HubRun, HubSchedule};
 pub use hub::{Signs, TurnHub};
+pub use hub_answers::{EndStep, JoinAnswer, JoinStep, Onward, Taken, take_in};
 pub use seat::HubSeat;
-pub use taking_in::take_in;

@@ -1,40 +1,27 @@
 //! How a joiner is handed in where the seat goes on in the same turn with what comes first.
-ghost use Rattle.std.specs.Prelude.{◌≡◌, ◌<◌, ◌≤◌, [], ◌∷◌, length, Some, None, IfOk, IfErr, vec_len};
+ghost use Rattle.std.specs.Prelude.{◌≡◌, ◌<◌, [], ◌∷◌, length, Some, None, IfOk, IfErr};
 ghost use Rattle.hub_core.specs.declared.status.Status.TheVariants.{Ready};
 ghost use Rattle.hub_core.specs.declared.state.HubState.TheVariants.{All};
 ghost use Rattle.hub_core.specs.declared.deed.Deed.TheVariants.{HandsIn, Draws};
 ghost use Rattle.hub_core.specs.Marks.{first_in};
 ghost use Rattle.hub_core.specs.Tally.{record_at};
-ghost use Rattle.turn_hub.specs.Plans.{HasPlan};
-ghost use Rattle.turn_hub.specs.Comings.{coming_of, coming_deeds};
+ghost use Rattle.hub_answers.specs.Plans.{HasPlan};
+ghost use Rattle.hub_answers.specs.Comings.{coming_of, coming_deeds};
 
-use crate::answers::{JoinAnswer, JoinStep, Onward};
-use crate::coming::Coming;
-use crate::drawing::plan_draw;
-use crate::firsts::{first_coming, plan_coming, take_first};
-use crate::handing::{reach_waits, wait_value};
 use crate::hub::TurnHub;
-use crate::joinee::Joinee;
 use crate::seat::Place;
-use crate::seeking::{comes_next, joinee_of};
-use hub_core::{Deed, Desk, Plan, Revision, Sight, empty};
-
-// The joiner is handed in, and what comes first is taken.
-fn plan_wait(plan: &mut Plan, of: u32, coming: Coming)
-    ensures { (plan.new.deeds.items ≡ HandsIn of ∷ coming_deeds coming)
-        × (plan.new.leaves ≡ None) × (plan.new.keeps ≡ None) }
-{
-    plan.clear();
-    plan.add(Deed::HandsIn(of));
-    plan_coming(plan, coming);
-}
+use hub_answers::{
+    JoinAnswer, JoinStep, Joinee, Onward, comes_next, first_coming, joinee_of, plan_draw,
+    plan_wait, reach_waits, take_first, wait_value,
+};
+use hub_core::{Desk, Revision, Sight, empty};
 
 impl<L: Revision> TurnHub<L> {
     ghost use Rattle.hub_core.specs.Seats.{HasJoin};
     ghost use Rattle.hub_core.specs.Tally.{lets_pass};
-    ghost use Rattle.turn_hub.specs.Answers.{WaitedOn, TookJoinee, JoinedOn};
-    ghost use Rattle.turn_hub.specs.Turns.{IsOpen, IsIn, IsResting};
-    ghost use Rattle.turn_hub.specs.Joinings.{IsOpenIn, IsTrackedIn};
+    ghost use Rattle.hub_answers.specs.Answers.{WaitedOn, TookJoinee, JoinedOn};
+    ghost use Rattle.hub_answers.specs.Turns.{IsOpen, IsIn, IsResting};
+    ghost use Rattle.hub_answers.specs.Joinings.{IsOpenIn, IsTrackedIn};
 
     // The plan hands the joiner in and takes what comes first. It is carried out, and the turn is
     // given back.

@@ -11,7 +11,7 @@ ghost use Rattle.hub_core.specs.TallySteps.{first_sight};
 ghost use Rattle.hub_core.specs.Views.{opens};
 ghost use Rattle.turn_hub.specs.Seats.{first_of, AreOf, AreNew};
 ghost use Rattle.turn_hub.specs.Opening.{IsFirstDesk};
-ghost use Rattle.turn_hub.specs.Turns.{IsIdle};
+ghost use Rattle.hub_answers.specs.Turns.{IsIdle};
 
 use crate::hub::{Signs, TurnHub};
 use crate::patience::Patience;

@@ -1,18 +1,18 @@
 //! The call that joins.
 ghost use Rattle.std.specs.Prelude.{◌≡◌, IfOk, IfErr};
 
-use crate::answers::JoinAnswer;
 use crate::hub::TurnHub;
 use crate::patience::{WAITS, pause};
 use crate::seat::HubSeat;
+use hub_answers::JoinAnswer;
 use hub_core::{Revision, Sight};
 use std::sync::Wait;
 use std::sync::atomic::Ordering;
 
 impl<L: Revision> TurnHub<L> {
     ghost use Rattle.hub_core.specs.Seats.{HasJoin, HadTurn};
-    ghost use Rattle.turn_hub.specs.Answers.{JoinSays};
-    ghost use Rattle.turn_hub.specs.Joinings.{IsBefore};
+    ghost use Rattle.hub_answers.specs.Answers.{JoinSays};
+    ghost use Rattle.hub_answers.specs.Joinings.{IsBefore};
 
     // One try of a join, from the turn on.
     fn try_join<W: Wait>(

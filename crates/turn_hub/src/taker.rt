@@ -1,18 +1,18 @@
 //! The call that joins, or takes what is ready.
 ghost use Rattle.std.specs.Prelude.{◌≡◌, IfOk, IfErr};
 
-use crate::answers::{JoinAnswer, JoinStep};
 use crate::hub::TurnHub;
 use crate::patience::{WAITS, pause};
 use crate::seat::HubSeat;
+use hub_answers::{JoinAnswer, JoinStep};
 use hub_core::{Revision, Sight};
 use std::sync::Wait;
 use std::sync::atomic::Ordering;
 
 impl<L: Revision> TurnHub<L> {
     ghost use Rattle.hub_core.specs.Seats.{HasJoin, HadTurn};
-    ghost use Rattle.turn_hub.specs.Answers.{JoinedOn};
-    ghost use Rattle.turn_hub.specs.Joinings.{IsBefore};
+    ghost use Rattle.hub_answers.specs.Answers.{JoinedOn};
+    ghost use Rattle.hub_answers.specs.Joinings.{IsBefore};
 
     // One try of a join, from the turn on.
     fn try_join_on<W: Wait>(

@@ -1,27 +1,19 @@
 //! How a turn begins in each call, and how it ends where a halt was entered.
-ghost use Rattle.std.specs.Prelude.{◌≡◌, ℕ, [], true, false, Some, None, MatchOption, option_to_list};
+ghost use Rattle.std.specs.Prelude.{◌≡◌, [], true, false, Some, None, MatchOption, option_to_list};
 ghost use Rattle.hub_core.specs.declared.state.HubState.TheVariants.{All};
 
 use crate::hub::TurnHub;
 use crate::patience::Patience;
 use crate::seat::Place;
-use hub_core::{Desk, HubState, Plan, Revision, Sight};
+use hub_answers::plan_record;
+use hub_core::{Desk, HubState, Revision, Sight};
 use std::sync::Wait;
-
-// A child that the seat keeps gets a record.
-fn plan_record(plan: &mut Plan, number: u32)
-    ensures { (plan.new.deeds.items ≡ []) × (plan.new.leaves ≡ Some number)
-        × (plan.new.keeps ≡ None) }
-{
-    plan.clear();
-    plan.leaves = Some(number);
-}
 
 impl<L: Revision> TurnHub<L> {
     ghost use Rattle.hub_core.specs.Tally.{HasDesk};
-    ghost use Rattle.turn_hub.specs.Answers.{IsHalted};
-    ghost use Rattle.turn_hub.specs.Turns.{IsIdle, IsOpen, IsIn, IsResting};
-    ghost use Rattle.turn_hub.specs.Plans.{lone_list};
+    ghost use Rattle.hub_answers.specs.Answers.{IsHalted};
+    ghost use Rattle.hub_answers.specs.Turns.{IsIdle, IsOpen, IsIn, IsResting};
+    ghost use Rattle.hub_answers.specs.Plans.{lone_list};
     ghost use Rattle.std.specs.Option.{is_some};
 
     // Gives the turn back halted: by want of memory, where no halt was entered before.

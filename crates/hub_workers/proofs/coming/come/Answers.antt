@@ -1,6 +1,6 @@
 -- Answers of come: a joiner that an end has stopped or that outlives it has the state behind its join.
 use Rattle.std.proofs.Common.{rules, inl, ◌∙◌}
-use Rattle.turn_hub.specs.declared.answers.JoinAnswer.TheVariants as join
+use Rattle.hub_answers.specs.declared.answers.JoinAnswer.TheVariants as join
 use Rattle.hub_workers.specs.Work.{HasAnswer}
 use Rattle.hub_workers.proofs.Behinds.{behind_as}
 use Rattle.hub_workers.proofs.Events.{have_met}

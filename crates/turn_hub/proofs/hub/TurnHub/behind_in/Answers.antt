@@ -2,7 +2,7 @@
 use Rattle.std.proofs.Common.{sym, ap, ◌∙◌, subst, arith}
 use Rattle.revision_machine.specs.Numbered.{Bears}
 use Rattle.hub_core.specs.Seats.{Owes}
-use Rattle.turn_hub.specs.Answers.{ForkedBehind}
+use Rattle.hub_answers.specs.Answers.{ForkedBehind}
 use Rattle.turn_hub.proofs.hub.TurnHub.behind_in.Goals as goal
 
 pub try_behind-requires-clause-event : goal.try_behind-requires-clause-event

@@ -6,11 +6,11 @@ use Rattle.hub_core.specs.declared.deed.Deed.TheVariants.{Commits}
 use Rattle.hub_core.specs.declared.desk.Desk.{Desk}
 use Rattle.hub_core.specs.Recorded.{put_record}
 use Rattle.hub_core.specs.Tally.{record_at, pairs}
-use Rattle.turn_hub.proofs.Says.{come_says}
-use Rattle.turn_hub.specs.Plans.{HasPlan}
-use Rattle.turn_hub.proofs.Values.{same_room, hand_same, in_same}
-use Rattle.turn_hub.proofs.Finding.{pass_on}
-use Rattle.turn_hub.proofs.Claims.{can_claim, claim_count, claim_rests, claim_hand, claim_says}
+use Rattle.hub_answers.proofs.Says.{come_says}
+use Rattle.hub_answers.specs.Plans.{HasPlan}
+use Rattle.hub_answers.proofs.Values.{same_room, hand_same, in_same}
+use Rattle.hub_answers.proofs.Finding.{pass_on}
+use Rattle.hub_answers.proofs.Claims.{can_claim, claim_count, claim_rests, claim_hand, claim_says}
 use Rattle.turn_hub.proofs.hub.TurnHub.claim_in.Goals as goal
 
 pub carry_out-desk-requires-clause-can : goal.carry_out-desk-requires-clause-can

@@ -7,10 +7,10 @@ use Rattle.hub_core.specs.declared.desk.Desk.{Desk}
 use Rattle.hub_core.specs.Recorded.{put_record}
 use Rattle.hub_core.specs.Rounds.{stamped}
 use Rattle.hub_core.specs.Tally.{record_at, pairs, entered as entered_by}
-use Rattle.turn_hub.specs.Plans.{HasPlan, end_deeds}
-use Rattle.turn_hub.proofs.Values.{same_room, hand_same, in_same}
-use Rattle.turn_hub.proofs.Finding.{pass_on}
-use Rattle.turn_hub.proofs.Ends.{end_pass, can_end, end_record, end_within, end_count, end_hand, end_says, end_rests}
+use Rattle.hub_answers.specs.Plans.{HasPlan, end_deeds}
+use Rattle.hub_answers.proofs.Values.{same_room, hand_same, in_same}
+use Rattle.hub_answers.proofs.Finding.{pass_on}
+use Rattle.hub_answers.proofs.Ends.{end_pass, can_end, end_record, end_within, end_count, end_hand, end_says, end_rests}
 use Rattle.turn_hub.proofs.hub.TurnHub.end_in.Goals as goal
 
 pub carry_out-desk-requires-clause-can : goal.carry_out-desk-requires-clause-can

@@ -1,9 +1,9 @@
 -- Answers of TurnHub::end_on: there is room for both entries, and what comes first is read before the plan.
 use Rattle.std.proofs.Common.{refl, ◌∙◌}
-use Rattle.turn_hub.proofs.Values.{same_room, hand_same, in_same}
-use Rattle.turn_hub.proofs.Finding.{pass_on}
-use Rattle.turn_hub.proofs.Ends.{end_pass}
-use Rattle.turn_hub.proofs.EndsOn.{next_read}
+use Rattle.hub_answers.proofs.Values.{same_room, hand_same, in_same}
+use Rattle.hub_answers.proofs.Finding.{pass_on}
+use Rattle.hub_answers.proofs.Ends.{end_pass}
+use Rattle.hub_answers.proofs.EndsOn.{next_read}
 use Rattle.turn_hub.proofs.hub.TurnHub.end_on.Goals as goal
 
 pub coming_after-coming-requires-clause-reach : goal.coming_after-coming-requires-clause-reach

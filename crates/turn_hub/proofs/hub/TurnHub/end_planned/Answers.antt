@@ -6,11 +6,11 @@ use Rattle.hub_core.specs.Chains.{EndsOne, IsWithin, chain_at}
 use Rattle.hub_core.specs.Recorded.{put_record}
 use Rattle.hub_core.specs.Rounds.{stamped}
 use Rattle.hub_core.specs.Tally.{pairs, record_at, entered as entered_by}
-use Rattle.turn_hub.specs.Plans.{end_deeds}
-use Rattle.turn_hub.specs.Comings.{coming_deeds}
-use Rattle.turn_hub.proofs.Finding.{pass_on}
-use Rattle.turn_hub.proofs.Ends.{end_pass}
-use Rattle.turn_hub.proofs.EndsOn.{can_end_on, on_count, on_rests, on_record, on_within, on_first, on_hand, on_says}
+use Rattle.hub_answers.specs.Plans.{end_deeds}
+use Rattle.hub_answers.specs.Comings.{coming_deeds}
+use Rattle.hub_answers.proofs.Finding.{pass_on}
+use Rattle.hub_answers.proofs.Ends.{end_pass}
+use Rattle.hub_answers.proofs.EndsOn.{can_end_on, on_count, on_rests, on_record, on_within, on_first, on_hand, on_says}
 use Rattle.turn_hub.proofs.hub.TurnHub.end_planned.Goals as goal
 
 pub carry_out-desk-requires-clause-can : goal.carry_out-desk-requires-clause-can

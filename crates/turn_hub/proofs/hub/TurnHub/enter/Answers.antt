@@ -1,8 +1,8 @@
 -- Answers of TurnHub::enter: a seat that took the turn finds the value in the slot.
 use Rattle.std.proofs.Common.{sym, ap, ◌∙◌, subst}
-use Rattle.turn_hub.specs.Turns.{IsIn}
+use Rattle.hub_answers.specs.Turns.{IsIn}
 use Rattle.turn_hub.proofs.Homes.{same_box}
-use Rattle.turn_hub.proofs.Taking.{in_taken}
+use Rattle.hub_answers.proofs.Taking.{in_taken}
 use Rattle.turn_hub.proofs.hub.TurnHub.enter.Goals as goal
 
 pub take_out_desk-requires-clause-home : goal.take_out_desk-requires-clause-home

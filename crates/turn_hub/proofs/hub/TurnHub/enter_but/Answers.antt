@@ -1,7 +1,7 @@
 -- Answers of TurnHub::enter_but: a kept child that is another gets a record, and nothing else changes.
 use Rattle.std.proofs.Common.{rules, ◌≡◌, true, option_to_list, ap, ◌∙◌, sym}
 use Rattle.std.specs.Option.{is_some}
-use Rattle.turn_hub.specs.Plans.{lone_list}
+use Rattle.hub_answers.specs.Plans.{lone_list}
 use Rattle.turn_hub.proofs.hub.TurnHub.enter_but.Goals as goal
 
 pub returns-clause-told : goal.returns-clause-told

@@ -1,5 +1,5 @@
 -- Answers of TurnHub::fork_behind: the seat has the passes that it had, so what it owes it owes in its turn.
-use Rattle.turn_hub.proofs.Finding.{owes_on}
+use Rattle.hub_answers.proofs.Finding.{owes_on}
 use Rattle.turn_hub.proofs.hub.TurnHub.fork_behind.Goals as goal
 
 pub behind_in-requires-clause-event : goal.behind_in-requires-clause-event

@@ -1,7 +1,7 @@
 -- Answers of TurnHub::fork_in: what a try tells is told of the value and the child that the seat had at first.
 use Rattle.std.proofs.Common.{sym, ◌∙◌, subst, arith}
 use Rattle.hub_core.specs.Seats.{HasFork}
-use Rattle.turn_hub.specs.Answers.{Forked}
+use Rattle.hub_answers.specs.Answers.{Forked}
 use Rattle.turn_hub.proofs.hub.TurnHub.fork_in.Goals as goal
 
 pub returns-in-Made-clause-ok : goal.returns-in-Made-clause-ok

@@ -3,7 +3,7 @@ use Rattle.std.proofs.Common.{◌≡◌, ◌≤◌}
 use Rattle.hub_core.specs.declared.sight.Sight.{Sight}
 use Rattle.hub_core.specs.declared.state.HubState.TheVariants.{All}
 use Rattle.hub_core.specs.Tally.{HasDesk}
-use Rattle.turn_hub.specs.Turns.{IsOpen, IsIn}
+use Rattle.hub_answers.specs.Turns.{IsOpen, IsIn}
 use Rattle.turn_hub.proofs.hub.TurnHub.fork_in.Given as goal
 
 abbrev pub invariant-loop : goal.invariant-loop

@@ -1,7 +1,7 @@
 -- Answers of TurnHub::join: the first try tells of the view before the call, and so do those behind it.
 use Rattle.std.proofs.Common.{subst}
-use Rattle.turn_hub.specs.Answers.{JoinSays}
-use Rattle.turn_hub.proofs.Strays.{before_same}
+use Rattle.hub_answers.specs.Answers.{JoinSays}
+use Rattle.hub_answers.proofs.Strays.{before_same}
 use Rattle.turn_hub.proofs.hub.TurnHub.join.Goals as goal
 
 pub returns-in-Ok-clause-answer : goal.returns-in-Ok-clause-answer

@@ -2,9 +2,9 @@
 use Rattle.std.proofs.Common.{ℕ, ◌∙◌, subst}
 use Rattle.hub_core.specs.declared.desk.Desk.{Desk}
 use Rattle.hub_core.specs.Tally.{record_at}
-use Rattle.turn_hub.specs.declared.joinee.Joinee.{Joinee}
-use Rattle.turn_hub.specs.Joinings.{IsJoinee}
-use Rattle.turn_hub.proofs.Seeks.{record_gone, record_open, record_waits}
+use Rattle.hub_answers.specs.declared.joinee.Joinee.{Joinee}
+use Rattle.hub_answers.specs.Joinings.{IsJoinee}
+use Rattle.hub_answers.proofs.Seeks.{record_gone, record_open, record_waits}
 use Rattle.turn_hub.proofs.hub.TurnHub.join_on.Goals as goal
 
 pub claim_in-requires-clause-over : goal.claim_in-requires-clause-over

@@ -1,7 +1,7 @@
 -- Answers of TurnHub::join_or_take: the first try tells of the view before the call, and so do those behind it.
 use Rattle.std.proofs.Common.{subst}
-use Rattle.turn_hub.specs.Answers.{JoinedOn}
-use Rattle.turn_hub.proofs.Strays.{before_same}
+use Rattle.hub_answers.specs.Answers.{JoinedOn}
+use Rattle.hub_answers.proofs.Strays.{before_same}
 use Rattle.turn_hub.proofs.hub.TurnHub.join_or_take.Goals as goal
 
 pub returns-in-Ok-clause-answer : goal.returns-in-Ok-clause-answer

@@ -1,5 +1,5 @@
 -- Answers of TurnHub::keep_by_turn: the seat has the passes that it had, so what it owes it owes in its turn.
-use Rattle.turn_hub.proofs.Finding.{owes_on}
+use Rattle.hub_answers.proofs.Finding.{owes_on}
 use Rattle.turn_hub.proofs.hub.TurnHub.keep_by_turn.Goals as goal
 
 pub keep_in-requires-clause-event : goal.keep_in-requires-clause-event

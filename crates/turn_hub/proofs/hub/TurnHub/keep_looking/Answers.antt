@@ -1,6 +1,6 @@
 -- Answers of TurnHub::keep_looking: a look that misses changes nothing, so a later one takes the turn as well.
 use Rattle.std.proofs.Common.{subst}
-use Rattle.turn_hub.specs.Turns.{IsTaken}
+use Rattle.hub_answers.specs.Turns.{IsTaken}
 use Rattle.turn_hub.proofs.hub.TurnHub.keep_looking.Goals as goal
 
 pub returns-then-look_for_turn-clause-took : goal.returns-then-look_for_turn-clause-took

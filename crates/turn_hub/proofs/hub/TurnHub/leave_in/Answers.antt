@@ -8,11 +8,11 @@ use Rattle.hub_core.specs.Chains.{DelaysOne}
 use Rattle.hub_core.specs.Recorded.{put_record}
 use Rattle.hub_core.specs.Tally.{record_at}
 use Rattle.hub_core.proofs.Passes.{pass_named}
-use Rattle.turn_hub.specs.Plans.{HasPlan}
-use Rattle.turn_hub.proofs.Values.{same_plan, hand_same, in_same}
-use Rattle.turn_hub.proofs.Finding.{pass_on}
-use Rattle.turn_hub.proofs.Hands.{can_hand, hand_record, hand_rests, may_wait}
-use Rattle.turn_hub.proofs.Awaits.{wait_within, wait_hand, wait_says}
+use Rattle.hub_answers.specs.Plans.{HasPlan}
+use Rattle.hub_answers.proofs.Values.{same_plan, hand_same, in_same}
+use Rattle.hub_answers.proofs.Finding.{pass_on}
+use Rattle.hub_answers.proofs.Hands.{can_hand, hand_record, hand_rests, may_wait}
+use Rattle.hub_answers.proofs.Awaits.{wait_within, wait_hand, wait_says}
 use Rattle.turn_hub.proofs.hub.TurnHub.leave_in.Goals as goal
 
 pub carry_out-desk-requires-clause-can : goal.carry_out-desk-requires-clause-can

@@ -1,7 +1,7 @@
 -- Answers of TurnHub::make_round: the round is noted in the seat's list, and its child is the one that it keeps.
 use Rattle.std.proofs.Common.{rules, ◌≡◌, Some, option_to_list, refl, ap, ◌∙◌, arith}
 use Rattle.hub_core.specs.Woven.{triples}
-use Rattle.turn_hub.proofs.Rounds.{kept_by_round, round_mine, round_made, round_rests}
+use Rattle.hub_answers.proofs.Rounds.{kept_by_round, round_mine, round_made, round_rests}
 use Rattle.turn_hub.proofs.hub.TurnHub.make_round.Goals as goal
 
 pub invariant_of-seat-2 : goal.invariant_of-seat-2

@@ -1,9 +1,9 @@
 -- Answers of TurnHub::open_number: the value and the table have room for the number, and nothing else changes.
 use Rattle.std.proofs.Common.{rules, ◌≡◌, ◌≤◌, ◌/◌, true, false, sym, ap, ◌∙◌, subst, arith}
 use Rattle.hub_core.specs.Tally.{HasDesk}
-use Rattle.turn_hub.specs.Turns.{IsIn}
-use Rattle.turn_hub.proofs.Values.{same_room, hand_same, in_same}
-use Rattle.turn_hub.proofs.Widths.{hand_wide, in_wide}
+use Rattle.hub_answers.specs.Turns.{IsIn}
+use Rattle.hub_answers.proofs.Values.{same_room, hand_same, in_same}
+use Rattle.hub_answers.proofs.Widths.{hand_wide, in_wide}
 use Rattle.turn_hub.proofs.hub.TurnHub.open_number.Goals as goal
 
 pub returns-then-not-raise_limit-clause-hand : goal.returns-then-not-raise_limit-clause-hand

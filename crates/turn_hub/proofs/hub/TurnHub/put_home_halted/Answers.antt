@@ -1,9 +1,9 @@
 -- Answers of TurnHub::put_home_halted: a value without a halt gets one for want of memory, and then goes home.
 use Rattle.std.proofs.Common.{rules, ◌≡◌, ◌≢◌, [], None, refl, sym, ap, ◌∙◌, arith}
 use Rattle.hub_core.specs.declared.state.HubState.TheVariants.{All, NoMemory}
-use Rattle.turn_hub.specs.Plans.{HasPlan}
-use Rattle.turn_hub.proofs.Values.{same_plan, hand_same, in_same}
-use Rattle.turn_hub.proofs.Halting.{can_halt, halted_hand, halted_now, halted_rests, halted_some, was_halted}
+use Rattle.hub_answers.specs.Plans.{HasPlan}
+use Rattle.hub_answers.proofs.Values.{same_plan, hand_same, in_same}
+use Rattle.hub_answers.proofs.Halting.{can_halt, halted_hand, halted_now, halted_rests, halted_some, was_halted}
 use Rattle.turn_hub.proofs.hub.TurnHub.put_home_halted.Goals as goal
 
 pub halt_no_memory-desk-requires-clause-can : goal.halt_no_memory-desk-requires-clause-can

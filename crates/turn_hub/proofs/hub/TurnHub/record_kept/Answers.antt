@@ -4,8 +4,8 @@ use Rattle.hub_core.specs.declared.status.Status.TheVariants.{Out}
 use Rattle.hub_core.specs.declared.state.HubState.TheVariants.{All}
 use Rattle.hub_core.specs.Recorded.{put_record}
 use Rattle.hub_core.specs.Tally.{record_at}
-use Rattle.turn_hub.specs.Plans.{HasPlan}
-use Rattle.turn_hub.proofs.Lending.{hand_longer, in_longer, can_lend, lend_mine, lend_none, lend_some, lend_hand, lend_in}
+use Rattle.hub_answers.specs.Plans.{HasPlan}
+use Rattle.hub_answers.proofs.Lending.{hand_longer, in_longer, can_lend, lend_mine, lend_none, lend_some, lend_hand, lend_in}
 use Rattle.turn_hub.proofs.hub.TurnHub.record_kept.Goals as goal
 
 pub returns-then-not-reach-clause-hand : goal.returns-then-not-reach-clause-hand

@@ -4,10 +4,10 @@ use Rattle.hub_core.specs.declared.desk.Desk.{Desk}
 use Rattle.hub_core.specs.declared.status.Status.TheVariants.{Ready}
 use Rattle.hub_core.specs.Chains.{IsWithin}
 use Rattle.hub_core.specs.Marks.{first_in}
-use Rattle.turn_hub.specs.Comings.{IsFirstKept, IsFirstTaken}
-use Rattle.turn_hub.proofs.Draws.{can_take, take_rests, take_within}
-use Rattle.turn_hub.specs.Answers.{TookJoinee}
-use Rattle.turn_hub.proofs.Runs.{runner_taken, run_same, joinee_hand, joinee_says}
+use Rattle.hub_answers.specs.Comings.{IsFirstKept, IsFirstTaken}
+use Rattle.hub_answers.proofs.Draws.{can_take, take_rests, take_within}
+use Rattle.hub_answers.specs.Answers.{TookJoinee}
+use Rattle.hub_answers.proofs.Runs.{runner_taken, run_same, joinee_hand, joinee_says}
 use Rattle.turn_hub.proofs.hub.TurnHub.run_planned.Goals as goal
 
 pub carry_out-desk-requires-clause-can : goal.carry_out-desk-requires-clause-can

@@ -1,7 +1,7 @@
 -- Answers of TurnHub::seek_in: where no seat keeps a child, a number without a record was joined, or is not born.
 use Rattle.std.proofs.Common.{rules, ◌≡◌, ◌<◌, ◌≤◌, ◌∷◌, None, length, sym, ap, ◌∙◌, arith}
 use Rattle.hub_core.specs.Tally.{record_at}
-use Rattle.turn_hub.proofs.Seeks.{number_gone, number_open}
+use Rattle.hub_answers.proofs.Seeks.{number_gone, number_open}
 use Rattle.turn_hub.proofs.hub.TurnHub.seek_in.Goals as goal
 
 pub twice_in-requires-clause-told : goal.twice_in-requires-clause-told

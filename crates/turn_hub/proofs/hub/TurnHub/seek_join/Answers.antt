@@ -1,8 +1,8 @@
 -- Answers of TurnHub::seek_join: what the last try tells is told of the view before the first.
 use Rattle.std.proofs.Common.{sym, ◌∙◌, subst}
 use Rattle.hub_core.specs.Seats.{HasJoin}
-use Rattle.turn_hub.specs.Answers.{JoinSays}
-use Rattle.turn_hub.proofs.Strays.{before_over}
+use Rattle.hub_answers.specs.Answers.{JoinSays}
+use Rattle.hub_answers.proofs.Strays.{before_over}
 use Rattle.turn_hub.proofs.hub.TurnHub.seek_join.Goals as goal
 
 pub returns-in-Ok-clause-answer : goal.returns-in-Ok-clause-answer

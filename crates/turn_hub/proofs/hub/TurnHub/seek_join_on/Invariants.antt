@@ -1,7 +1,7 @@
 -- Loops of TurnHub::seek_join_on: the tries so far came to nothing, and the joiner is there as at first.
 use Rattle.std.proofs.Common.{◌≡◌}
 use Rattle.hub_core.specs.Seats.{HasJoin}
-use Rattle.turn_hub.specs.Joinings.{IsBefore}
+use Rattle.hub_answers.specs.Joinings.{IsBefore}
 use Rattle.turn_hub.proofs.hub.TurnHub.seek_join_on.Given as goal
 
 abbrev pub invariant-loop : goal.invariant-loop

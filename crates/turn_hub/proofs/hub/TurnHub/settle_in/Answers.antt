@@ -7,10 +7,10 @@ use Rattle.hub_core.specs.Chains.{IsWithin, chain_at}
 use Rattle.hub_core.specs.Rounds.{stamped}
 use Rattle.hub_core.specs.Tally.{record_at, pairs, entered as entered_by}
 use Rattle.hub_core.proofs.Passes.{pass_named}
-use Rattle.turn_hub.specs.Plans.{HasPlan, IsSettled, settle_deeds, lone_of}
-use Rattle.turn_hub.proofs.Values.{same_room, hand_same, in_same}
-use Rattle.turn_hub.proofs.Finding.{owes_on}
-use Rattle.turn_hub.proofs.Joins.{can_join, join_rests, join_says, join_count, join_within, join_hand}
+use Rattle.hub_answers.specs.Plans.{HasPlan, IsSettled, settle_deeds, lone_of}
+use Rattle.hub_answers.proofs.Values.{same_room, hand_same, in_same}
+use Rattle.hub_answers.proofs.Finding.{owes_on}
+use Rattle.hub_answers.proofs.Joins.{can_join, join_rests, join_says, join_count, join_within, join_hand}
 use Rattle.turn_hub.proofs.hub.TurnHub.settle_in.Goals as goal
 
 pub carry_out-desk-requires-clause-can : goal.carry_out-desk-requires-clause-can

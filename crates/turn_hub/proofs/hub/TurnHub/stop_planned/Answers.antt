@@ -7,15 +7,15 @@ use Rattle.hub_core.specs.Chains.{EndsOne, IsWithin, chain_at}
 use Rattle.hub_core.specs.Recorded.{put_record}
 use Rattle.hub_core.specs.Rounds.{stamped}
 use Rattle.hub_core.specs.Tally.{pairs, record_at, entered as entered_by}
-use Rattle.turn_hub.specs.declared.answers.EndStep.TheVariants as ending
-use Rattle.turn_hub.specs.declared.answers.JoinAnswer.TheVariants as join
-use Rattle.turn_hub.specs.Answers.{EndedOn}
-use Rattle.turn_hub.specs.declared.coming.Coming.TheVariants.{Stops}
-use Rattle.turn_hub.specs.Plans.{end_deeds}
-use Rattle.turn_hub.specs.Comings.{coming_deeds}
-use Rattle.turn_hub.proofs.Finding.{pass_on}
-use Rattle.turn_hub.proofs.Ends.{end_pass}
-use Rattle.turn_hub.proofs.StopsOn.{can_stop_on, halt_count, halt_rests, halt_record, halt_within, halt_first, halt_taken, halt_hand, halt_says, retry_same}
+use Rattle.hub_answers.specs.declared.answers.EndStep.TheVariants as ending
+use Rattle.hub_answers.specs.declared.answers.JoinAnswer.TheVariants as join
+use Rattle.hub_answers.specs.Answers.{EndedOn}
+use Rattle.hub_answers.specs.declared.coming.Coming.TheVariants.{Stops}
+use Rattle.hub_answers.specs.Plans.{end_deeds}
+use Rattle.hub_answers.specs.Comings.{coming_deeds}
+use Rattle.hub_answers.proofs.Finding.{pass_on}
+use Rattle.hub_answers.proofs.Ends.{end_pass}
+use Rattle.hub_answers.proofs.StopsOn.{can_stop_on, halt_count, halt_rests, halt_record, halt_within, halt_first, halt_taken, halt_hand, halt_says, retry_same}
 use Rattle.turn_hub.proofs.hub.TurnHub.stop_planned.Goals as goal
 
 pub halt_twice-desk-requires-clause-can : goal.halt_twice-desk-requires-clause-can

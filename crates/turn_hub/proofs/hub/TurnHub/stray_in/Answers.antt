@@ -1,10 +1,10 @@
 -- Answers of TurnHub::stray_in: no seat keeps a child, so the joinee is not born, and has not ended.
 use Rattle.std.proofs.Common.{rules, ◌≡◌, ◌<◌, true, length, refl, sym, ap, ◌∙◌, subst}
 use Rattle.hub_core.specs.declared.desk.Desk.{Desk}
-use Rattle.turn_hub.specs.Turns.{IsIn}
-use Rattle.turn_hub.specs.Joinings.{IsOpenIn}
-use Rattle.turn_hub.proofs.Lending.{hand_longer, in_longer}
-use Rattle.turn_hub.proofs.Strays.{in_stray}
+use Rattle.hub_answers.specs.Turns.{IsIn}
+use Rattle.hub_answers.specs.Joinings.{IsOpenIn}
+use Rattle.hub_answers.proofs.Lending.{hand_longer, in_longer}
+use Rattle.hub_answers.proofs.Strays.{in_stray}
 use Rattle.turn_hub.proofs.hub.TurnHub.stray_in.Goals as goal
 
 pub reach_waits-requires : goal.reach_waits-requires

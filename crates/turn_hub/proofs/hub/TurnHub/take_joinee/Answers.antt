@@ -1,5 +1,5 @@
 -- Answers of TurnHub::take_joinee: the plan changes nothing else of the value.
-use Rattle.turn_hub.proofs.Values.{same_plan, in_same}
+use Rattle.hub_answers.proofs.Values.{same_plan, in_same}
 use Rattle.turn_hub.proofs.hub.TurnHub.take_joinee.Goals as goal
 
 pub run_planned-requires-clause-told : goal.run_planned-requires-clause-told

@@ -9,10 +9,10 @@ use Rattle.hub_core.specs.Found.{is_ready}
 use Rattle.hub_core.specs.Marks.{first_in}
 use Rattle.hub_core.specs.Recorded.{put_record}
 use Rattle.hub_core.specs.Tally.{record_at}
-use Rattle.turn_hub.specs.Turns.{IsIn}
-use Rattle.turn_hub.specs.Plans.{HasPlan}
-use Rattle.turn_hub.proofs.Values.{same_plan, hand_same, in_same}
-use Rattle.turn_hub.proofs.Draws.{can_take, draw_told, drawn, take_record, take_ready, take_rests, take_within, take_hand, take_ran, take_retried, none_says, idle_says, finished_says}
+use Rattle.hub_answers.specs.Turns.{IsIn}
+use Rattle.hub_answers.specs.Plans.{HasPlan}
+use Rattle.hub_answers.proofs.Values.{same_plan, hand_same, in_same}
+use Rattle.hub_answers.proofs.Draws.{can_take, draw_told, drawn, take_record, take_ready, take_rests, take_within, take_hand, take_ran, take_retried, none_says, idle_says, finished_says}
 use Rattle.turn_hub.proofs.hub.TurnHub.take_next.Goals as goal
 
 pub carry_out-desk-requires-clause-can : goal.carry_out-desk-requires-clause-can

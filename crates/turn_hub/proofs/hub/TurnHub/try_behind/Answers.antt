@@ -8,12 +8,12 @@ use Rattle.hub_core.specs.Rounds.{stamped}
 use Rattle.hub_core.specs.Seats.{Owes}
 use Rattle.hub_core.specs.Tally.{record_at, pairs, entered as entered_by, HasDesk}
 use Rattle.hub_core.proofs.Passes.{pass_named}
-use Rattle.turn_hub.specs.Turns.{IsIn}
-use Rattle.turn_hub.specs.Plans.{HasPlan, IsSettled, behind_deeds, lone_list, lone_of}
-use Rattle.turn_hub.proofs.Values.{same_plan, hand_same, in_same}
-use Rattle.turn_hub.proofs.Widths.{hand_room, in_room}
-use Rattle.turn_hub.proofs.Lones.{settled_length}
-use Rattle.turn_hub.proofs.Behinds.{can_behind, behind_rests, behind_says, behind_fit, behind_child, behind_links, behind_within, behind_mine, behind_hand}
+use Rattle.hub_answers.specs.Turns.{IsIn}
+use Rattle.hub_answers.specs.Plans.{HasPlan, IsSettled, behind_deeds, lone_list, lone_of}
+use Rattle.hub_answers.proofs.Values.{same_plan, hand_same, in_same}
+use Rattle.hub_answers.proofs.Widths.{hand_room, in_room}
+use Rattle.hub_answers.proofs.Lones.{settled_length}
+use Rattle.hub_answers.proofs.Behinds.{can_behind, behind_rests, behind_says, behind_fit, behind_child, behind_links, behind_within, behind_mine, behind_hand}
 use Rattle.turn_hub.proofs.hub.TurnHub.try_behind.Goals as goal
 
 pub returns-in_default-clause-told : goal.returns-in_default-clause-told

@@ -7,11 +7,11 @@ use Rattle.hub_core.specs.Recorded.{put_record}
 use Rattle.hub_core.specs.Rounds.{stamped}
 use Rattle.hub_core.specs.Seats.{HasFork}
 use Rattle.hub_core.specs.Tally.{record_at, pairs, entered as entered_by, HasDesk}
-use Rattle.turn_hub.specs.Turns.{IsIn}
-use Rattle.turn_hub.specs.Plans.{HasPlan, fork_deeds}
-use Rattle.turn_hub.proofs.Values.{same_plan, hand_same, in_same}
-use Rattle.turn_hub.proofs.Widths.{hand_room, in_room}
-use Rattle.turn_hub.proofs.Births.{can_bear, birth_rests, birth_says, birth_fit, birth_child, birth_hand}
+use Rattle.hub_answers.specs.Turns.{IsIn}
+use Rattle.hub_answers.specs.Plans.{HasPlan, fork_deeds}
+use Rattle.hub_answers.proofs.Values.{same_plan, hand_same, in_same}
+use Rattle.hub_answers.proofs.Widths.{hand_room, in_room}
+use Rattle.hub_answers.proofs.Births.{can_bear, birth_rests, birth_says, birth_fit, birth_child, birth_hand}
 use Rattle.turn_hub.proofs.hub.TurnHub.try_fork.Goals as goal
 
 pub returns-in_default-clause-told : goal.returns-in_default-clause-told

@@ -2,9 +2,9 @@
 use Rattle.std.proofs.Common.{◌∷◌, sym, ap, ◌∙◌, subst}
 use Rattle.hub_core.specs.Seats.{HasJoin}
 use Rattle.hub_core.specs.declared.sight.Sight.{Sight}
-use Rattle.turn_hub.specs.Joinings.{IsBefore}
-use Rattle.turn_hub.proofs.Finding.{pass_on}
-use Rattle.turn_hub.proofs.Strays.{before_pass}
+use Rattle.hub_answers.specs.Joinings.{IsBefore}
+use Rattle.hub_answers.proofs.Finding.{pass_on}
+use Rattle.hub_answers.proofs.Strays.{before_pass}
 use Rattle.turn_hub.proofs.hub.TurnHub.try_join.Goals as goal
 
 pub returns-in-Ok-clause-came : goal.returns-in-Ok-clause-came

@@ -8,12 +8,12 @@ use Rattle.hub_core.specs.Seats.{Owes}
 use Rattle.hub_core.specs.Rounds.{stamped}
 use Rattle.hub_core.specs.Tally.{record_at, pairs, entered as entered_by, HasDesk}
 use Rattle.hub_core.proofs.Passes.{pass_named}
-use Rattle.turn_hub.specs.Turns.{IsIn}
-use Rattle.turn_hub.specs.Plans.{HasPlan, IsSettled, keep_deeds, lone_list, lone_of}
-use Rattle.turn_hub.proofs.Values.{same_plan, hand_same, in_same}
-use Rattle.turn_hub.proofs.Widths.{hand_room, in_room}
-use Rattle.turn_hub.proofs.Lones.{settled_less, settled_length, taken_noted}
-use Rattle.turn_hub.proofs.Keeps.{can_keep, keep_rests, keep_says, keep_fit, keep_within, keep_child, keep_mine, keep_hand}
+use Rattle.hub_answers.specs.Turns.{IsIn}
+use Rattle.hub_answers.specs.Plans.{HasPlan, IsSettled, keep_deeds, lone_list, lone_of}
+use Rattle.hub_answers.proofs.Values.{same_plan, hand_same, in_same}
+use Rattle.hub_answers.proofs.Widths.{hand_room, in_room}
+use Rattle.hub_answers.proofs.Lones.{settled_less, settled_length, taken_noted}
+use Rattle.hub_answers.proofs.Keeps.{can_keep, keep_rests, keep_says, keep_fit, keep_within, keep_child, keep_mine, keep_hand}
 use Rattle.turn_hub.proofs.hub.TurnHub.try_keep.Goals as goal
 
 pub returns-in_default-clause-told : goal.returns-in_default-clause-told

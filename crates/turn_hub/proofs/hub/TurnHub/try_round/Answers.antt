@@ -2,7 +2,7 @@
 use Rattle.std.proofs.Common.{rules, refl}
 use Rattle.hub_core.specs.TallySteps.{first_sight}
 use Rattle.hub_core.proofs.Planned.{told_round_made}
-use Rattle.turn_hub.proofs.Rounds.{can_round}
+use Rattle.hub_answers.proofs.Rounds.{can_round}
 use Rattle.turn_hub.proofs.hub.TurnHub.try_round.Goals as goal
 
 pub compare_exchange_with-found-requires : goal.compare_exchange_with-found-requires

@@ -1,6 +1,6 @@
 -- Answers of TurnHub::try_turn: a look that misses changes nothing, so later looks take the turn as the first would.
 use Rattle.std.proofs.Common.{subst}
-use Rattle.turn_hub.specs.Turns.{IsTaken}
+use Rattle.hub_answers.specs.Turns.{IsTaken}
 use Rattle.turn_hub.proofs.hub.TurnHub.try_turn.Goals as goal
 
 pub returns-clause-took : goal.returns-clause-took

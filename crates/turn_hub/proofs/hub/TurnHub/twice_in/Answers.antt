@@ -4,11 +4,11 @@ use Rattle.hub_core.specs.declared.state.HubState.TheVariants.{All, Twice}
 use Rattle.hub_core.specs.declared.deed.Deed.TheVariants.{Commits}
 use Rattle.hub_core.specs.declared.desk.Desk.{Desk}
 use Rattle.hub_core.specs.Tally.{pairs}
-use Rattle.turn_hub.specs.Plans.{HasPlan}
-use Rattle.turn_hub.specs.Joinings.{IsGoneIn}
-use Rattle.turn_hub.proofs.Values.{same_room, hand_same, same_slots, in_same}
-use Rattle.turn_hub.proofs.Finding.{pass_on}
-use Rattle.turn_hub.proofs.Twices.{can_stop, stop_count, stop_hand, stop_rests, stop_says}
+use Rattle.hub_answers.specs.Plans.{HasPlan}
+use Rattle.hub_answers.specs.Joinings.{IsGoneIn}
+use Rattle.hub_answers.proofs.Values.{same_room, hand_same, same_slots, in_same}
+use Rattle.hub_answers.proofs.Finding.{pass_on}
+use Rattle.hub_answers.proofs.Twices.{can_stop, stop_count, stop_hand, stop_rests, stop_says}
 use Rattle.turn_hub.proofs.hub.TurnHub.twice_in.Goals as goal
 
 pub halt_twice-desk-requires-clause-can : goal.halt_twice-desk-requires-clause-can

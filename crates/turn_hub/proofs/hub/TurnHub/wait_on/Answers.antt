@@ -1,7 +1,7 @@
 -- Answers of TurnHub::wait_on: the plan changes nothing else of the value.
 use Rattle.std.proofs.Common.{sym, subst}
-use Rattle.turn_hub.specs.Joinings.{IsOpenIn}
-use Rattle.turn_hub.proofs.Values.{same_plan, in_same, in_slots}
+use Rattle.hub_answers.specs.Joinings.{IsOpenIn}
+use Rattle.hub_answers.proofs.Values.{same_plan, in_same, in_slots}
 use Rattle.turn_hub.proofs.hub.TurnHub.wait_on.Goals as goal
 
 pub wait_planned-requires-clause-told : goal.wait_planned-requires-clause-told

@@ -5,8 +5,8 @@ use Rattle.hub_core.specs.declared.desk.Desk.{Desk}
 use Rattle.hub_core.specs.Chains.{DelaysOne}
 use Rattle.hub_core.specs.Recorded.{put_record}
 use Rattle.hub_core.specs.Tally.{record_at}
-use Rattle.turn_hub.proofs.Finding.{pass_on}
-use Rattle.turn_hub.proofs.Waits.{can_wait, wait_record, wait_rests, wait_first, wait_hand, wait_says}
+use Rattle.hub_answers.proofs.Finding.{pass_on}
+use Rattle.hub_answers.proofs.Waits.{can_wait, wait_record, wait_rests, wait_first, wait_hand, wait_says}
 use Rattle.turn_hub.proofs.hub.TurnHub.wait_planned.Goals as goal
 
 pub carry_out-desk-requires-clause-can : goal.carry_out-desk-requires-clause-can

@@ -1,6 +1,6 @@
 -- Answers of TurnHub::wait_turn: a try that misses changes nothing, so a later one takes the turn as the first would.
 use Rattle.std.proofs.Common.{◌∙◌, subst}
-use Rattle.turn_hub.specs.Turns.{IsTaken}
+use Rattle.hub_answers.specs.Turns.{IsTaken}
 use Rattle.turn_hub.proofs.hub.TurnHub.wait_turn.Goals as goal
 
 pub returns-then-try_turn : goal.returns-then-try_turn
