@@ -27,6 +27,11 @@ module _ {A : Type 0} (f : A → ℕ) where
       (λ e. let t = total_some xs (omega arith) in (suc t.0, t.1, t.2, t.3))
       (λ n. (zero, x, refl, omega arith))
 
+-- the holds that were counted are those that were made and the others
+total_held : (vs : List SegmentView) → total held vs ≡ total (λ v. v.holds) vs + total (λ v. v.left) vs
+total_held [] = refl
+total_held (v ∷ vs) = let r = total_held vs in omega arith
+
 -- the numbers below n have ranks of at most this
 pub highest : (ℕ → ℕ) → ℕ → ℕ
 highest rank zero = 0
@@ -98,24 +103,29 @@ none_live words stride segments ws big is dead (suc k) h = let r =
     ap (λ (b : Bool). cond b 0 1) (eq-eqb (get_or ws ((k + 1) * stride) 0) 0 z) in
     (λ i. r i + q i)
 
--- where all views stand for fewer than 2^64 holds, those that were not gathered are counted exactly,
--- and with none of them no segment has a count
+-- where fewer than 2^64 holds were counted for all views, those that did not come back are counted
+-- exactly, and with none of them no segment has a count and all that were made were gathered
 pub exact : (words stride segments : ℕ) → 1 < stride → words ≡ (segments + 1) * stride
     → (s : State (Unit {0}) SegmentView) → Kept words stride s → (id : ℕ) (v : SegmentView)
-    → get_elem? s.views id ≡ some v → v.chain ≡ [] → v.build ≡ 0 → v.left ≡ 0
+    → get_elem? s.views id ≡ some v → v.chain ≡ [] → v.build ≡ 0
     → (live out : ℕ) → live ≡ live_segments stride s.words segments
-    → out ≡ out_of (total held s.views) v.holds → total held s.views < 18446744073709551616
-    → (v.holds ≤ total held s.views) × (out ≡ total held s.views - v.holds)
-    × (out ≡ 0 → live ≡ 0)
-exact words stride segments big rooms s r id v at no_chain no_build none_left live out counts is few =
+    → out ≡ out_of (total held s.views) (held v) → total held s.views < 18446744073709551616
+    → (held v ≤ total held s.views) × (out ≡ total held s.views - held v)
+    × (out ≡ 0 → (live ≡ 0) × (total (λ u. u.holds) s.views ≡ v.holds))
+exact words stride segments big rooms s r id v at no_chain no_build live out counts is few =
     let mine = total_one held s.views id v at in
-    let under : v.holds ≤ total held s.views = omega arith in
-    let rest : out ≡ total held s.views - v.holds = omega arith in (
+    let under : held v ≤ total held s.views = omega arith in
+    let rest : out ≡ total held s.views - held v = omega arith in
+    let both = total_held s.views in let made = total_one (λ u. u.holds) s.views id v at in
+    let spare = total_one (λ u. u.left) s.views id v at in (
       under,
       rest,
-      λ all. counts ∙ none_live words stride segments s.words big rooms
-          (closes words stride s r id v at no_chain no_build (omega arith)) segments
-          (omega arith),
+      λ all. (
+        counts ∙ none_live words stride segments s.words big rooms
+            (closes words stride s r id v at no_chain no_build (omega arith)) segments
+            (omega arith),
+        omega arith,
+      ),
     )
 
 -- one more segment is counted

@@ -734,10 +734,11 @@ module _ (words stride : ℕ) (some_words : 0 < stride) where
       subst (λ (y : ℕ). Allows Rule slots id me y (λ x. x) (saw (step slots y 0 0 none) me))
       (sym is) (see_own slots id me (subst (λ (y : ℕ). 0 < y) is h))
 
-  pub tallies : (slots id : ℕ) (me : M) → 0 < words
-      → Allows Rule slots id me 0 (λ x. (x + 1) % 2 ^ 64) (tallied (step slots 0 1 0 none) me)
-  tallies slots id me some_words' s r _ at small = let v : SegmentView = me.0 in let w : SegmentView = counts v in
-      let x : ℕ = get_or s.words 0 0 in let y : ℕ = (x + 1) % 18446744073709551616 in
+  pub tallies : (slots id : ℕ) (me : M) (n : ℕ) → 0 < words
+      → Allows Rule slots id me 0 (λ x. (x + n) % 2 ^ 64) (tallied (step slots 0 n 0 none) me)
+  tallies slots id me n some_words' s r _ at small = let v : SegmentView = me.0 in
+      let w : SegmentView = counts v n in
+      let x : ℕ = get_or s.words 0 0 in let y : ℕ = (x + n) % 18446744073709551616 in
       let long : length s.words ≡ words = r.long in
       let zero_mod : 0 % stride ≡ 0 = zero-mod stride in let mine = r.seats id v at in
       let know : (u : SegmentView) → Knows words stride s.words r.ups u

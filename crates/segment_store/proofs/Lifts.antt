@@ -233,18 +233,18 @@ module _ (words stride masks : ℕ) (some_words : 0 < stride) where
       (λ k sh. drop_ties words stride masks r.fit.0 r.fit.1 s r.kept k sh id v at e ch.1 ch.2 single
       (omega arith) counted.2))))
 
-  pub tallies : (slots id : ℕ) (me : M) → 0 < words
-      → Allows R slots id me 0 (λ x. (x + 1) % 2 ^ 64) (st.tallied (step slots 0 1 0 m.none) me)
-  tallies slots id me some = lifts words stride masks slots id me 0 (λ x. (x + 1) % 2 ^ 64)
-      (st.tallied (step slots 0 1 0 m.none) me)
-      (keeps.tallies words stride some_words slots id me some)
-      (λ s r at m' t. let v : SegmentView = me.0 in let y : ℕ = (get_or s.words 0 0 + 1) % 2 ^ 64 in
+  pub tallies : (slots id : ℕ) (me : M) (n : ℕ) → 0 < words
+      → Allows R slots id me 0 (λ x. (x + n) % 2 ^ 64) (st.tallied (step slots 0 n 0 m.none) me)
+  tallies slots id me n some = lifts words stride masks slots id me 0 (λ x. (x + n) % 2 ^ 64)
+      (st.tallied (step slots 0 n 0 m.none) me)
+      (keeps.tallies words stride some_words slots id me n some)
+      (λ s r at m' t. let v : SegmentView = me.0 in let y : ℕ = (get_or s.words 0 0 + n) % 2 ^ 64 in
       subst (λ (z : SegmentView). Tr (set s.words 0 y) (set s.views id z))
-      (view_is m' (st.counts v) me.1 t)
-      (quiet_traces words stride masks s r.traced id v (st.counts v) (set s.words 0 y) at refl refl
+      (view_is m' (st.counts v n) me.1 t)
+      (quiet_traces words stride masks s r.traced id v (st.counts v n) (set s.words 0 y) at refl refl
       (λ k sh. quiet_ties words stride masks r.fit.0 r.fit.1 s k sh (set s.words 0 y)
       (λ d bd i lo hi. let pos = bd.0 in get_or-set_other s.words 0 i y 0 (λ e. omega arith)) id
-      v (st.counts v) at refl refl refl)))
+      v (st.counts v n) at refl refl refl)))
 
   -- what the seats have noted, where a view is cut in two and a new seat has the second part
   snoc_own : (s : St) (steps : List core.CoreStep) (id : ℕ) (v a b : SegmentView)

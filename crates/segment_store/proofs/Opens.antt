@@ -101,7 +101,6 @@ rests words stride masks = record {
   single = refl;
   not_alone = refl;
   not_building = refl;
-  none_left = refl;
   one_hold = refl;
   head = refl;
   deep = refl;

@@ -59,7 +59,6 @@ pub record Rests (words stride masks first depth : ℕ) (v : SegmentView) : Type
   pub single : v.extra ≡ 0
   pub not_alone : v.alone ≡ 0
   pub not_building : v.build ≡ 0
-  pub none_left : v.left ≡ 0
   pub one_hold : v.holds ≡ 1
   pub head : first ≡ first_of v.chain
   pub deep : depth ≡ length v.chain

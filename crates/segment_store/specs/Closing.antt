@@ -3,6 +3,7 @@
 --   AreLast      the words are those of such a state
 --   made         how many holds the views of a state stand for, with those that were counted and not
 --                made
+--   stood_for    how many holds they stand for without these
 --   IsCounted    the answer of `close`, by the last words; of each state that can have them it says
 --                how many holds are out
 use Rattle.std.specs.Prelude.{◌≡◌, ℕ, ◌+◌, ◌-◌, ◌%◌, ◌<◌, ◌≤◌, ◌^◌, List}
@@ -14,7 +15,7 @@ use Rattle.segment_store.specs.declared.store.Closed.{Closed}
 use Rattle.segment_store.specs.declared.store.Spent.{Spent}
 use Rattle.segment_store.specs.declared.store.Store.{Store}
 use Rattle.segment_store.specs.Live.{live_segments}
-use Rattle.segment_store.specs.Names.{gathered}
+use Rattle.segment_store.specs.Names.{gathered, given_back}
 use Rattle.segment_store.specs.Rule.{Rule, St}
 use Rattle.segment_store.specs.Store.{held}
 
@@ -28,16 +29,20 @@ AreLast s all ws = (now : St) × IsEnd s all now × (now.words ≡ ws)
 abbrev pub made : St → ℕ
 made now = total held now.views
 
--- modulo 2^64 the holds that were made and not gathered
-abbrev pub out_of : ℕ → ℕ → ℕ
-out_of made gathered = (made + 2 ^ 64 - gathered % 2 ^ 64) % 2 ^ 64
+abbrev pub stood_for : St → ℕ
+stood_for now = total (λ v. v.holds) now.views
 
--- in the state, `out` is modulo 2^64 the holds of all views that were not gathered; where all views
--- have fewer than 2^64 it is those, and with none out no segment has a count
+-- modulo 2^64 the holds that were counted and did not come back
+abbrev pub out_of : ℕ → ℕ → ℕ
+out_of made back = (made + 2 ^ 64 - back % 2 ^ 64) % 2 ^ 64
+
+-- in the state, `out` is modulo 2^64 the holds of all views that did not come back; where all views
+-- have fewer than 2^64 it is those, and with none out no segment has a count, and each hold that was
+-- made was gathered
 pub record IsOut (all : Spent) (c : Closed) (now : St) : Type 0 where
-  pub out : c.out ≡ out_of (made now) (gathered all)
-  pub few : made now < 2 ^ 64 → (gathered all ≤ made now) × (c.out ≡ made now - gathered all)
-      × (c.out ≡ 0 → c.live ≡ 0)
+  pub out : c.out ≡ out_of (made now) (given_back all)
+  pub few : made now < 2 ^ 64 → (given_back all ≤ made now) × (c.out ≡ made now - given_back all)
+      × (c.out ≡ 0 → (c.live ≡ 0) × (stood_for now ≡ gathered all))
 
 pub record IsCounted (s : Store) (all : Spent) (c : Closed) : Type 0 where
   pub words : List ℕ

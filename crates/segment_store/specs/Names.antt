@@ -8,7 +8,7 @@ use Rattle.version_map.specs.declared.snapshot.Collapsed.TheVariants as collapse
 use Rattle.segment_store.specs.Act as act
 use Rattle.segment_store.specs.declared.board.SegmentView.{SegmentView}
 use Rattle.segment_store.specs.Entry.{Entry, Look}
-use Rattle.segment_store.specs.Store.{sees, pops, IsSegment, InChain}
+use Rattle.segment_store.specs.Store.{sees, pops, held, IsSegment, InChain}
 use Rattle.segment_store.specs.declared.store.Store.{Store}
 use Rattle.segment_store.specs.declared.store.Hold.{Hold}
 use Rattle.segment_store.specs.declared.store.Spent.{Spent}
@@ -29,6 +29,11 @@ IsDeltaOf s d = locations d ≡ vec_len s.initial
 -- how many holds it is left of
 abbrev pub gathered : Spent → ℕ
 gathered s = (view s.seat).holds
+
+-- how many of the counted holds came back with it: those that it is left of, and those that they had
+-- counted and not made
+abbrev pub given_back : Spent → ℕ
+given_back s = held (view s.seat)
 
 abbrev pub IsSameHold : Hold → Hold → Type 0
 IsSameHold h k = ((view k.seat).chain ≡ (view h.seat).chain) × (k.own ≡ h.own)

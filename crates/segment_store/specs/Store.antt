@@ -140,8 +140,12 @@ pops v = record v {
 abbrev pub drops : SegmentView → SegmentView
 drops v = record v { chain = []; alone = 0; did = act.release (first_of v.chain) ∷ v.did }
 
-abbrev pub counts : SegmentView → SegmentView
-counts v = record v { left = v.left + 1 }
+abbrev pub counts : SegmentView → ℕ → SegmentView
+counts v n = record v { left = v.left + n }
+
+-- so many holds are counted and not made
+abbrev pub stocked : SegmentView → ℕ → SegmentView
+stocked v n = record v { left = n }
 
 abbrev pub Has : Entry → List Entry → Type 0
 Has e [] = ⊥
@@ -198,7 +202,7 @@ released st m r m' = (0 < r) × (r ≡ 1 → m' ≡ (pops m.0, m.1)) × (r ≢ 1
     × (0 < m.0.alone → r ≡ 1)
 
 abbrev pub tallied : Then
-tallied st m r m' = m' ≡ (counts m.0, m.1)
+tallied st m r m' = m' ≡ (counts m.0 st.first, m.1)
 
 -- how a fork and a gather cut and join views
 abbrev pub hands_left : SegmentView → SegmentView

@@ -88,7 +88,7 @@ impl Play<(), SegmentView> for Release {
     ghost then = { released };
 }
 
-/// The word 0 counts one hold more, which the seat may hand on.
+/// The word 0 counts so many holds more, which the seat may hand on.
 pub struct Tally;
 
 impl Play<(), SegmentView> for Tally {

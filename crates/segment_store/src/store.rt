@@ -6,7 +6,7 @@ ghost use mathlib.Core.Option.{some};
 ghost use Rattle.version_map.specs.Masks.{rows};
 ghost use Rattle.version_map.specs.Deltas.{locations, IsEmpty};
 ghost use Rattle.version_map.specs.Overlay.{under, Agree};
-ghost use Rattle.segment_store.specs.Store.{notes};
+ghost use Rattle.segment_store.specs.Store.{notes, held};
 ghost use Rattle.segment_store.specs.Base.{value, Rests, longest};
 ghost use Rattle.segment_store.specs.Places.{room, size_of, view, number, seat_name};
 ghost use Rattle.segment_store.specs.Same.{IsSameSeat};
@@ -59,9 +59,12 @@ pub struct Hold {
     stride: usize,
     masks: usize,
     own: Option<Vec<u64>>,
+    // How many holds it has counted and not made.
+    spare: u64,
     ghost rests: { Rests (room seat) stride masks first depth (view seat) },
     ghost own_words: { IsOwn stride masks first own },
     ghost short: { depth ≤ longest },
+    ghost spared: { spare ≡ (view seat).left },
 }
 
 /// What `close` counted.
@@ -81,7 +84,8 @@ impl Closed {
         self.live
     }
 
-    /// How many of the holds that were counted were not gathered, modulo 2^64.
+    /// How many of the holds that were counted did not come back, modulo 2^64. A hold that did not may
+    /// have counted some that it did not make.
     pub fn out(&self) -> u64
         ensures { result ≡ self.now.out }
     {
@@ -89,14 +93,15 @@ impl Closed {
     }
 }
 
-/// What is left of holds that were given back, with their number modulo 2^64. It is never let go of:
-/// `gather`, `shut` and `close` take it.
+/// What is left of holds that were given back. It is never let go of: `gather`, `shut` and `close`
+/// take it.
 pub struct Spent {
     seat: Place,
+    // The number of these holds and of those that they had to spare, modulo 2^64.
     holds: u64,
     ghost some: { 0 < (view seat).holds },
     ghost empty: { ((view seat).chain ≡ []) × ((view seat).build ≡ 0)
-        × (holds ≡ (view seat).holds % 2 ^ 64) × ((view seat).left ≡ 0) },
+        × (holds ≡ held (view seat) % 2 ^ 64) },
 }
 
 impl Store {
@@ -146,6 +151,7 @@ impl Store {
             stride,
             masks,
             own: None,
+            spare: 0,
         };
         Ok((store, hold))
     }
@@ -164,7 +170,14 @@ impl Store {
             → base self.now h l ≡ under delta.old (base self.now hold.old) l) }
         ensures empty { IfSome result (λ h. IsEmpty delta.new) }
     {
-        let (segment, seat) = self.push(&mut hold.seat, hold.first, hold.depth, delta, &hold.own)?;
+        let (segment, seat) = self.push(
+            &mut hold.seat,
+            &mut hold.spare,
+            hold.first,
+            hold.depth,
+            delta,
+            &hold.own,
+        )?;
         hold.first = segment;
         hold.depth += 1;
         hold.own = None;
@@ -176,6 +189,7 @@ impl Store {
             stride: self.stride,
             masks: self.masks,
             own: None,
+            spare: 0,
         })
     }
 
@@ -243,7 +257,7 @@ impl Store {
         ensures child { IsOf self.now result × (result.own ≢ None) }
         ensures base { (l : ℕ) → base self.now result l ≡ slice_index words.items l }
     {
-        let seat = self.split_off(&mut hold.seat, hold.first, hold.depth);
+        let seat = self.split_off(&mut hold.seat, &mut hold.spare, hold.first, hold.depth);
         Hold {
             seat,
             first: 0,
@@ -251,6 +265,7 @@ impl Store {
             stride: self.stride,
             masks: self.masks,
             own: Some(words),
+            spare: 0,
         }
     }
 
@@ -267,7 +282,7 @@ impl Store {
         if hold.first == 0 {
             return None;
         }
-        let seat = self.share_first(&mut hold.seat, hold.first, hold.depth)?;
+        let seat = self.share_first(&mut hold.seat, &mut hold.spare, hold.first, hold.depth)?;
         Some(Hold {
             seat,
             first: hold.first,
@@ -275,6 +290,7 @@ impl Store {
             stride: self.stride,
             masks: self.masks,
             own: None,
+            spare: 0,
         })
     }
 
@@ -421,7 +437,7 @@ impl Store {
             × (hold.new.depth ≡ hold.old.depth) }
         ensures spent { IsSeatOf self.now result.seat × (gathered result ≡ 1) }
     {
-        let seat = self.split_off(&mut hold.seat, hold.first, hold.depth);
+        let seat = self.split_off(&mut hold.seat, &mut hold.spare, hold.first, hold.depth);
         Spent { seat, holds: 1 }
     }
 
@@ -438,9 +454,13 @@ impl Store {
             stride: _,
             masks: _,
             own: _,
+            spare,
         } = hold;
         self.release_all(&mut seat, first, depth);
-        Spent { seat, holds: 1 }
+        Spent {
+            seat,
+            holds: spare.wrapping_add(1),
+        }
     }
 
     /// The word of the hold's base at this location, which is one of the store's. What the hold has

@@ -8,7 +8,7 @@ use crate::store::{Closed, Place, Spent, Store};
 use sparse_table::Closed as Ended;
 
 /// What is left of a store that was ended: its words, which no thread shares any more, and how many
-/// holds were gathered, modulo 2^64.
+/// of the holds that were counted came back, modulo 2^64.
 pub struct Shut {
     table: Ended,
     holds: u64,
@@ -20,7 +20,7 @@ pub struct Shut {
 }
 
 impl Store {
-    ghost use Rattle.segment_store.specs.Names.{IsSeatOf, gathered};
+    ghost use Rattle.segment_store.specs.Names.{IsSeatOf, given_back};
     ghost use Rattle.segment_store.specs.Closing.{AreLast, IsCounted};
 
     /// Ends the store, and keeps its words: those of a state that meets the rule, in which the seat
@@ -29,7 +29,7 @@ impl Store {
         requires own { IsSeatOf self all.seat }
         ensures words { AreLast self all (words_of result.table) }
         ensures sizes { (result.stride ≡ self.stride) × (result.segments ≡ self.segments) }
-        ensures holds { result.holds ≡ gathered all % 2 ^ 64 }
+        ensures holds { result.holds ≡ given_back all % 2 ^ 64 }
         ensures group { IsSeatOf self result.witness }
     {
         let witness = self.witness(&mut all.seat);
@@ -54,8 +54,9 @@ impl Store {
 
     /// Ends the store, and counts in its last words. `live` is how many segments have a count that
     /// is not 0. In each state that can have these words, and in which the seat of `all` has its
-    /// view, `out` is how many holds of all seats were not gathered, modulo 2^64. Where they have
-    /// fewer than 2^64, `out` is exact, and with none out no segment has a count.
+    /// view, `out` is how many holds that were counted for all seats did not come back, modulo 2^64.
+    /// Where fewer than 2^64 were counted, `out` is exact, and with none out no segment has a count
+    /// and each hold that was made was gathered.
     pub fn close(self, all: Spent) -> Closed
         requires own { IsSeatOf self all.seat }
         ensures counted { IsCounted self all result }
@@ -67,7 +68,7 @@ impl Store {
 
 impl Shut {
     /// What its words say, which are given back: how many segments have a count that is not 0, and
-    /// how much more the word has that counts the holds than were gathered, modulo 2^64.
+    /// how much more the word has that counts the holds than came back, modulo 2^64.
     pub fn count(self) -> Closed
         ensures live { result.live
             ≡ live_segments self.stride (words_of self.table) self.segments }

@@ -4,7 +4,7 @@ ghost use mathlib.Core.Option.{some};
 ghost use Rattle.version_map.specs.declared.delta.Delta.{Delta};
 ghost use Rattle.segment_store.specs.Store.{first_of, idle, sees, notes, claims, puts};
 ghost use Rattle.segment_store.specs.Store.{publishes, shares, pops, drops, counts, hands_left};
-ghost use Rattle.segment_store.specs.Store.{hands_right, parts_left, gathers};
+ghost use Rattle.segment_store.specs.Store.{hands_right, parts_left, gathers, stocked};
 ghost use Rattle.segment_store.specs.Base.{IsLaid};
 ghost use Rattle.segment_store.specs.Places.{view, seat_name};
 ghost use Rattle.segment_store.specs.Same.{IsSameSeat, Becomes, IsWord, IsAttached};
@@ -15,6 +15,9 @@ use crate::plays::{
     Write,
 };
 use crate::store::{Place, Store};
+
+// So many holds are counted by one addition.
+const HOLDS_AT_ONCE: u64 = 64;
 
 impl Store {
     ghost use Rattle.segment_store.specs.Names.{IsSeatOf, IsSegmentIn, IsInsideIn, IsLinkIn};
@@ -136,11 +139,27 @@ impl Store {
         self.table.sub_head::<Release>(seat, segment, 1) == 1
     }
 
-    pub(super) fn tally(&self, seat: &mut Place)
+    // So many holds are counted.
+    fn tally(&self, seat: &mut Place, holds: u64)
         requires own { IsSeatOf self.now seat.old }
-        ensures { Becomes seat.old seat.new (counts (view seat.old)) }
+        ensures { Becomes seat.old seat.new (counts (view seat.old) holds) }
     {
-        self.table.add_head::<Tally>(seat, 0, 1);
+        self.table.add_head::<Tally>(seat, 0, holds);
+    }
+
+    // Takes a hold of those to spare, and counts more where there is none. All threads that fork
+    // write the word that counts, so each goes there once for many forks.
+    pub(super) fn take_hold(&self, seat: &mut Place, spare: &mut u64)
+        requires own { IsSeatOf self.now seat.old }
+        requires spare { spare.old ≡ (view seat.old).left }
+        ensures { Becomes seat.old seat.new (stocked (view seat.old) (spare.new + 1)) }
+    {
+        if *spare > 0 {
+            *spare -= 1;
+            return;
+        }
+        self.tally(seat, HOLDS_AT_ONCE);
+        *spare = HOLDS_AT_ONCE - 1;
     }
 
     pub(super) fn hand_on(&self, seat: &mut Place) -> Place

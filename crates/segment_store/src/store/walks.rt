@@ -100,6 +100,7 @@ impl Store {
     pub(super) fn push(
         &self,
         seat: &mut Place,
+        spare: &mut u64,
         first: usize,
         depth: u64,
         delta: &mut Delta,
@@ -107,6 +108,7 @@ impl Store {
     ) -> Option<(usize, Place)>
         requires own { IsSeatOf self.now seat.old × IsDeltaOf self.now delta.old }
         requires rests { RestsIn self.now first depth (view seat.old) }
+        requires spare { spare.old ≡ (view seat.old).left }
         requires own_words { IfSome own.now (λ ws. vec_len ws ≡ vec_len self.now.initial) }
         ensures same { (seat_name seat.new ≡ seat_name seat.old)
             × (locations delta.new ≡ locations delta.old) }
@@ -118,6 +120,8 @@ impl Store {
         ensures some { IfSome result (λ p. (0 < p.0) × (seat_name p.1 ≡ seat_name seat.old)
             × ((root : List ℕ)
             → ForkedIn self.now root p.0 depth delta.new (view seat.old) (view seat.new) (view p.1))) }
+        ensures spare { (spare.new ≡ (view seat.new).left)
+            × IfSome result (λ p. (view p.1).left ≡ 0) }
     {
         let segment = self.claim_any(seat, first);
         if segment == 0 {
@@ -126,7 +130,7 @@ impl Store {
         self.complete(delta, own);
         self.fill(seat, segment, first, delta);
         self.publish(seat, segment);
-        self.tally(seat);
+        self.take_hold(seat, spare);
         let child = self.hand_on(seat);
         Some((segment, child))
     }
@@ -205,19 +209,29 @@ impl Store {
         Ok(up)
     }
 
-    pub(super) fn share_first(&self, seat: &mut Place, first: usize, depth: u64) -> Option<Place>
+    // A seat for a child over the same chain.
+    pub(super) fn share_first(
+        &self,
+        seat: &mut Place,
+        spare: &mut u64,
+        first: usize,
+        depth: u64,
+    ) -> Option<Place>
         requires own { IsSeatOf self.now seat.old }
         requires rests { RestsIn self.now first depth (view seat.old) × (0 < first) }
+        requires spare { spare.old ≡ (view seat.old).left }
         ensures same { (seat_name seat.new ≡ seat_name seat.old) }
         ensures none { IfNone result (IsSameSeat seat.old seat.new) }
         ensures some { IfSome result (λ p. (seat_name p ≡ seat_name seat.old)
             × IsSharedIn self.now first depth (view seat.old) (view seat.new) (view p)) }
+        ensures spare { (spare.new ≡ (view seat.new).left)
+            × IfSome result (λ p. (view p).left ≡ 0) }
     {
         let count = self.peek(seat, first);
         if count == 0 || count >= 1 << 32 || !self.share(seat, first, count) {
             return None;
         }
-        self.tally(seat);
+        self.take_hold(seat, spare);
         Some(self.hand_on(seat))
     }
 
@@ -248,16 +262,24 @@ impl Store {
     }
 
     // A seat with one hold and no chain: of a child with words of its own, or of a purse.
-    pub(super) fn split_off(&self, seat: &mut Place, first: usize, depth: u64) -> Place
+    pub(super) fn split_off(
+        &self,
+        seat: &mut Place,
+        spare: &mut u64,
+        first: usize,
+        depth: u64,
+    ) -> Place
         requires own { IsSeatOf self.now seat.old }
         requires rests { RestsIn self.now first depth (view seat.old) }
+        requires spare { spare.old ≡ (view seat.old).left }
         ensures same { (seat_name seat.new ≡ seat_name seat.old)
             × ((view seat.new).chain ≡ (view seat.old).chain)
             × ((view seat.new).log ≡ (view seat.old).log) }
         ensures rests { RestsIn self.now first depth (view seat.new) }
+        ensures spare { spare.new ≡ (view seat.new).left }
         ensures given { (seat_name result ≡ seat_name seat.old) × (view result ≡ idle 1 0) }
     {
-        self.tally(seat);
+        self.take_hold(seat, spare);
         self.part(seat)
     }
 }

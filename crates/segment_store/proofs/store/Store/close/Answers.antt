@@ -17,7 +17,7 @@ returns-clause-counted c = let ws : List ℕ = words_of c.shut.result.table in
     let gone = c.shut.ensures.holds in let o = c.count.ensures.out in
     let live = c.count.ensures.live ∙ (λ i. live_segments (sizes.0 i) ws (sizes.1 i)) in
     let out : (now : St) → IsEnd c.args.self c.args.all now → now.words ≡ ws
-    → c.count.result.out ≡ out_of (total held now.views) (view c.args.all.seat).holds =
+    → c.count.result.out ≡ out_of (total held now.views) (held (view c.args.all.seat)) =
     λ now e is.
     let tally : get_or ws 0 0 ≡ total held now.views % 18446744073709551616 =
     ap (λ (xs : List ℕ). get_or xs 0 0) (sym is) ∙ e.rule.kept.tally in
@@ -27,7 +27,7 @@ returns-clause-counted c = let ws : List ℕ = words_of c.shut.result.table in
       live = live;
       out = λ now e is. record {
         out = out now e is;
-        few = exact _ _ _ (omega arith) rows.1 now e.rule.kept _ _ e.seat q.0 q.1 q.3 _ _
+        few = exact _ _ _ (omega arith) rows.1 now e.rule.kept _ _ e.seat q.0 q.1 _ _
             (live ∙ ap (λ (xs : List ℕ). live_segments c.args.self.stride xs
             c.args.self.segments) (sym is)) (out now e is);
       };

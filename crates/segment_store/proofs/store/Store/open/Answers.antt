@@ -60,6 +60,7 @@ invariant_of-hold c = let e = c.in_ok-table.ensures.seat in record {
       (rests _ _ _);
   own_words = λ ws q. absurd (none_some ws None refl q);
   short = omega arith;
+  spared = sym (ap (λ (v : SegmentView). v.left) e.1);
 }
 
 pub returns-clause-free : goal.returns-clause-free

@@ -1,8 +1,8 @@
--- Answers of Store::push: claim, fill, publish, tally and hand-on change the view in a row to that of a fork.
-use Rattle.std.proofs.Common.{arith, ◌≡◌, ℕ, List, sym, ap, ◌∙◌, subst}
+-- Answers of Store::push: claim, fill, publish, a hold taken and hand-on change the view in a row to that of a fork.
+use Rattle.std.proofs.Common.{arith, ◌≡◌, ◌+◌, ℕ, List, sym, ap, ◌∙◌, subst}
 use Rattle.segment_store.specs.Places.{view}
 use Rattle.segment_store.specs.declared.board.SegmentView.{SegmentView}
-use Rattle.segment_store.specs.Store.{first_of, claims, publishes, counts, hands_left, hands_right}
+use Rattle.segment_store.specs.Store.{first_of, claims, publishes, stocked, hands_left, hands_right}
 use Rattle.segment_store.specs.Base.{IsLaid, filled, logged, Forked}
 use Rattle.segment_store.proofs.ChainWalks.{row_of, rests_log}
 use Rattle.segment_store.proofs.Forks.{forked, unlogged}
@@ -14,32 +14,38 @@ returns-clause-some c = let some = c.claim_any-segment.ensures.some
     let v = view c.args.seat.now in let log = (view c.claim_any-segment.new.seat).log in
     let e1 = some.0.2 in let e2 = c.fill.ensures.view.2 in
     let e3 = c.publish.ensures.view.2 in
-    let e4 = c.tally.ensures.2 in
+    let e4 = c.take_hold.ensures.2 in let n : ℕ = c.take_hold.new.spare + 1 in
     let e5 = c.hand_on-child.ensures.kept.2 in
     let e6 = c.hand_on-child.ensures.given.1 in
-    let before = e4 ∙ ap counts (e3 ∙ ap publishes (e2 ∙ ap (λ (u : SegmentView). filled u made) e1)) in
+    let before = e4 ∙ ap (λ (u : SegmentView). stocked u n)
+    (e3 ∙ ap publishes (e2 ∙ ap (λ (u : SegmentView). filled u made) e1)) in
     let w = c.args.self.now.wide in let w0 = w.0 in
     let done : (root : List ℕ)
     → Forked root c.args.self.now.words c.args.self.now.stride c.args.self.now.masks
     c.claim_any-segment.result c.args.depth c.complete.new.delta v
-    (hands_left (counts
-    (publishes (filled (claims (logged v log) c.claim_any-segment.result) made))))
-    (hands_right (counts
-    (publishes (filled (claims (logged v log) c.claim_any-segment.result) made)))) =
-    λ root. unlogged root _ _ _ _ _ _ v log _ _
+    (hands_left (stocked
+    (publishes (filled (claims (logged v log) c.claim_any-segment.result) made)) n))
+    (hands_right (stocked
+    (publishes (filled (claims (logged v log) c.claim_any-segment.result) made)) n)) =
+    λ root. unlogged root v log
     (forked root c.args.self.now.words c.args.self.now.stride c.args.self.now.masks
     c.claim_any-segment.result c.args.first c.args.depth c.complete.new.delta (logged v log)
     made c.fill.ensures.laid
     (λ l h. row_of _ _ l c.args.self.now.rowed.0 (omega arith)) (omega arith)
-    (rests_log _ _ _ _ _ v log c.requires.rests) some.1 some.2) in (
+    (rests_log v log c.requires.rests) some.1 some.2 n) in (
       (let h = c.if-segment-eq0.false in omega arith),
       c.hand_on-child.ensures.given.0
-          ∙ (c.tally.ensures.0 ∙ (c.publish.ensures.view.0 ∙ (c.fill.ensures.view.0 ∙ some.0.0))),
+          ∙ (c.take_hold.ensures.0 ∙ (c.publish.ensures.view.0 ∙ (c.fill.ensures.view.0 ∙ some.0.0))),
       subst (λ (z : SegmentView × SegmentView). (root : List ℕ)
           → Forked root c.args.self.now.words c.args.self.now.stride c.args.self.now.masks
           c.claim_any-segment.result c.args.depth c.complete.new.delta v z.0 z.1)
           (λ i. (sym (e5 ∙ ap hands_left before) i, sym (e6 ∙ ap hands_right before) i)) done,
     )
+
+pub returns-clause-spare : goal.returns-clause-spare
+returns-clause-spare c = let kept = ap (λ (u : SegmentView). u.left) c.hand_on-child.ensures.kept.2 in
+    let took = ap (λ (u : SegmentView). u.left) c.take_hold.ensures.2 in
+    (omega arith, ap (λ (u : SegmentView). u.left) c.hand_on-child.ensures.given.1)
 
 pub publish-requires-clause-laid : goal.publish-requires-clause-laid
 publish-requires-clause-laid c = let some = c.claim_any-segment.ensures.some

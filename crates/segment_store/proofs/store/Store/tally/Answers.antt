@@ -1,4 +1,4 @@
--- Answers of Store::tally: to add 1 to the word that counts the holds is a step that the rule allows.
+-- Answers of Store::tally: to add to the word that counts the holds is a step that the rule allows.
 use Rattle.std.proofs.Common.{◌+◌, ◌^◌, ◌%◌}
 use Rattle.segment_store.specs.Places.{size_of}
 use Rattle.sparse_table.proofs.Names.{of_named}
@@ -10,6 +10,6 @@ use Rattle.segment_store.proofs.store.Store.tally.Goals as goal
 pub add_head-requires : goal.add_head-requires
 add_head-requires c = let s = c.args.self.now in let size = size_of s.table in record {
   own = (of_named s.table c.args.seat.now c.requires.own, part_zero s);
-  allowed = tallies size.words size.stride size.masks (some_stride s) _ _ _ (some_words s);
-  backed = holds_back size.words size.stride size.masks (some_stride s) _ _ _ (λ n. (n + 1) % 2 ^ 64);
+  allowed = tallies size.words size.stride size.masks (some_stride s) _ _ _ _ (some_words s);
+  backed = holds_back size.words size.stride size.masks (some_stride s) _ _ _ (λ n. (n + c.args.holds) % 2 ^ 64);
 }
