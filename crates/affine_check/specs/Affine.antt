@@ -1,6 +1,7 @@
 -- The affine rule: what the paths through a procedure meet, and the four ways to break the rule, with their places.
 --
--- An `Occurrence` is a NAME that is used, or a local that gets a value. `Through` and `Inside` are the paths all the way
+-- An `Occurrence` is a NAME that is used, or a local that gets a value.
+-- `Through` and `Inside` are the paths all the way
 -- through statements and to some place in them. `UsedTwice`, `Copied`, `Stored` and `InLoop` are the four breaches in
 -- a block. `Breaks` says that a program has one at a place, `IsAffine` that it has none, and `IsFirstBroken` which one
 -- is at the least place and there of the least number.
@@ -67,13 +68,15 @@ Turns P (suc n) ms = (ms₁ ms₂ : List Occurrence) × P ms₁ × Turns P n ms�
 abbrev mutual
   pub Through : Names → Locals → Statements → List Occurrence → Type 0
   Through c l no_statements ms = ms ≡ []
-  Through c l (statements x rest) ms = (l' : Locals) × (ms₁ ms₂ : List Occurrence) × StatementThrough c l x l' ms₁ × Through c l' rest ms₂ × (ms ≡ ms₁ ++ ms₂)
+  Through c l (statements x rest) ms = (l' : Locals) × (ms₁ ms₂ : List Occurrence) × StatementThrough c l x l' ms₁
+      × Through c l' rest ms₂ × (ms ≡ ms₁ ++ ms₂)
 
   pub StatementThrough : Names → Locals → Statement → Locals → List Occurrence → Type 0
   StatementThrough c l (statement at line form) l' ms = StatementFormThrough c l form l' ms
 
   pub StatementFormThrough : Names → Locals → StatementForm → Locals → List Occurrence → Type 0
-  StatementFormThrough c l (bind w r) l' ms = ((t : ValueKind) × RightSideHas c l r t × (l' ≡ added l w.text (Some t))) × (ms ≡ right_side_occurrences l r (gets w.text ∷ []))
+  StatementFormThrough c l (bind w r) l' ms = ((t : ValueKind) × RightSideHas c l r t × (l' ≡ added l w.text (Some t)))
+      × (ms ≡ right_side_occurrences l r (gets w.text ∷ []))
   StatementFormThrough c l (assign w r) l' ms = (l' ≡ l) × (ms ≡ right_side_occurrences l r (gets w.text ∷ []))
   StatementFormThrough c l (assign_cell w index e) l' ms = (l' ≡ l) × (ms ≡ [])
   StatementFormThrough c l (choose arms) l' ms = (l' ≡ l) × (ArmsThrough c l arms ms ⊎ (ms ≡ []))
@@ -95,7 +98,9 @@ abbrev mutual
   pub Inside : Names → Locals → Statements → List Occurrence → Type 0
   Inside c l no_statements ms = ms ≡ []
   Inside c l (statements x rest) ms =
-      (ms ≡ []) ⊎ (StatementInside c l x ms ⊎ ((l' : Locals) × (ms₁ ms₂ : List Occurrence) × StatementThrough c l x l' ms₁ × Inside c l' rest ms₂ × (ms ≡ ms₁ ++ ms₂)))
+      (ms ≡ []) ⊎ (StatementInside c l x ms
+      ⊎ ((l' : Locals) × (ms₁ ms₂ : List Occurrence) × StatementThrough c l x l' ms₁ × Inside c l' rest ms₂
+      × (ms ≡ ms₁ ++ ms₂)))
 
   -- in a block of a statement, or at a `return`
   pub StatementInside : Names → Locals → Statement → List Occurrence → Type 0
@@ -107,7 +112,8 @@ abbrev mutual
   StatementFormInside c l (assign_cell w index e) ms = ⊥
   StatementFormInside c l (choose arms) ms = ArmsInside c l arms ms
   StatementFormInside c l (choose_or arms last) ms = ArmsInside c l arms ms ⊎ Inside c l last ms
-  StatementFormInside c l (repeat test body) ms = (n : ℕ) × (ms₁ ms₂ : List Occurrence) × Turns (λ xs. Through c l body xs) n ms₁ × Inside c l body ms₂ × (ms ≡ ms₁ ++ ms₂)
+  StatementFormInside c l (repeat test body) ms = (n : ℕ) × (ms₁ ms₂ : List Occurrence)
+      × Turns (λ xs. Through c l body xs) n ms₁ × Inside c l body ms₂ × (ms ≡ ms₁ ++ ms₂)
   StatementFormInside c l (call w args) ms = ⊥
   StatementFormInside c l (return e) ms = ms ≡ value_occurrences l e
   StatementFormInside c l (fork w args) ms = ⊥
@@ -395,11 +401,13 @@ DeclarationsBreak c [] b at = ⊥
 DeclarationsBreak c (fun w ps r body ∷ es) b at = DeclarationsBreak c es b at
 DeclarationsBreak c (merge w m j r body ∷ es) b at = DeclarationsBreak c es b at
 DeclarationsBreak c (shared x ∷ es) b at = DeclarationsBreak c es b at
-DeclarationsBreak c (proc w ps r body ∷ es) b at = BodyBreaks c (with_params [] ps) body b at ⊎ DeclarationsBreak c es b at
+DeclarationsBreak c (proc w ps r body ∷ es) b at =
+    BodyBreaks c (with_params [] ps) body b at ⊎ DeclarationsBreak c es b at
 
 -- the program breaks the rule so at this place
 abbrev pub Breaks : ProgramTree → Breach → ℕ → Type 0
-Breaks p b at = DeclarationsBreak (outside p.declarations) p.declarations b at ⊎ BodyBreaks (outside p.declarations) [] p.main b at
+Breaks p b at = DeclarationsBreak (outside p.declarations) p.declarations b at
+    ⊎ BodyBreaks (outside p.declarations) [] p.main b at
 
 -- it keeps the rule
 abbrev pub IsAffine : ProgramTree → Type 0
@@ -421,4 +429,5 @@ pub record Breakage : Type 0 where
 -- of all that the program breaks this is at the least place, and there of the least number
 pub record IsFirstBroken (p : ProgramTree) (f : Breakage) : Type 0 where
   pub broken : Breaks p f.how f.at
-  pub first : (b : Breach) (at : ℕ) → Breaks p b at → IsBefore (λ g. g.at) (λ g. number g.how) f (record { at = at; how = b })
+  pub first : (b : Breach) (at : ℕ) → Breaks p b at
+      → IsBefore (λ g. g.at) (λ g. number g.how) f (record { at = at; how = b })

@@ -195,7 +195,8 @@ abbrev mutual
   pub StatementsOnce : Names → Option ValueKind → Locals → Statements → (Name → Bool) → Type 0
   StatementsOnce c result l no_statements K = Unit {0}
   StatementsOnce c result l (statements x rest) K =
-      (l' : Locals) × StatementTyped c result l x l' × StatementOnce c result l x (λ n. live n rest (K n)) × (statement_passes x ≡ true → StatementsOnce c result l' rest K)
+      (l' : Locals) × StatementTyped c result l x l' × StatementOnce c result l x (λ n. live n rest (K n))
+      × (statement_passes x ≡ true → StatementsOnce c result l' rest K)
 
   pub StatementOnce : Names → Option ValueKind → Locals → Statement → (Name → Bool) → Type 0
   StatementOnce c result l (statement at line form) K = StatementFormOnce c result l form K

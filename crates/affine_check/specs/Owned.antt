@@ -1,6 +1,7 @@
 -- Local states in which each handle is owned, and how many live places of a state name a revision.
 --
--- `count` is over a table of locals, and `owned` over all of a local state. `IsOwned` is what each step keeps of a local
+-- `count` is over a table of locals, and `owned` over all of a local state.
+-- `IsOwned` is what each step keeps of a local
 -- state, `UsesHandlesOnce` is what it asks of the program, and `OneOwner` is what follows for all revisions.
 use Rattle.std.specs.Prelude.{◌≡◌, ◌≢◌, ℕ, ◌+◌, ◌≤◌, Bool, true, false, cond, List, [], ◌∷◌, Option, Some, None}
 use Rattle.rev_num.specs.Path.{Path}
@@ -63,15 +64,19 @@ owned l q = owned_at l.phase l.frames q
 abbrev pub RestOnce : Names → Option ValueKind → Locals → Statements → Type 0
 RestOnce c result scope no_statements = Unit {0}
 RestOnce c result scope (statements x rest) =
-    (known : Locals) × (after : Locals) × IsWithin known scope × StatementTyped c result known x after × StatementOnce c result known x (λ n. live n rest false) × (statement_passes x ≡ true → RestOnce c result after rest)
+    (known : Locals) × (after : Locals) × IsWithin known scope × StatementTyped c result known x after
+    × StatementOnce c result known x (λ n. live n rest false)
+    × (statement_passes x ≡ true → RestOnce c result after rest)
 
 -- A local in scope that has a handle is of kind rev, but for the one that waits. No local has the name of a shared
 -- variable.
 pub record LocalsRev (c : Names) (scope : Locals) (waits : Option Name) (values : Table Value) : Type 0 where
-  pub rev : (name : Name) (t : ValueKind) (q : Path) → waits ≢ Some name → find name scope ≡ Some (Some t) → find name values ≡ Some (v.Rev (Some q)) → t ≡ k.Rev
+  pub rev : (name : Name) (t : ValueKind) (q : Path) → waits ≢ Some name → find name scope ≡ Some (Some t)
+      → find name values ≡ Some (v.Rev (Some q)) → t ≡ k.Rev
   pub apart : (name : Name) (h : Holder) → c.shared name ≡ Some h → (find name scope ≡ None) × (find name values ≡ None)
 
-pub record FrameOwn (c : Names) (result : Option ValueKind) (scope : Locals) (waits : Option Name) (f : Frame) : Type 0 where
+pub record FrameOwn (c : Names) (result : Option ValueKind) (scope : Locals) (waits : Option Name) (f : Frame) : Type
+    0 where
   pub locals : LocalsRev c scope waits f.locals
   pub rest : RestOnce c result scope f.rest
 
@@ -79,12 +84,14 @@ pub record FrameOwn (c : Names) (result : Option ValueKind) (scope : Locals) (wa
 abbrev pub Fits : Names → Locals → Option Name → Option ValueKind → Type 0
 Fits c scope None given = Unit {0}
 Fits c scope (Some name) None = ⊥
-Fits c scope (Some name) (Some t) = ScalarHas (find name scope) (c.shared name) t × ((h : Holder) → c.shared name ≡ Some h → h.kind ≢ k.Rev)
+Fits c scope (Some name) (Some t) =
+    ScalarHas (find name scope) (c.shared name) t × ((h : Holder) → c.shared name ≡ Some h → h.kind ≢ k.Rev)
 
 abbrev pub FramesOwn : Names → Option Name → Option ValueKind → List Frame → Type 0
 FramesOwn c waits given [] = waits ≡ None
 FramesOwn c waits given (f ∷ fs) =
-    (scope : Locals) × (result : Option ValueKind) × Fits c scope waits given × FrameOwn c result scope waits f × FramesOwn c f.left result fs
+    (scope : Locals) × (result : Option ValueKind) × Fits c scope waits given × FrameOwn c result scope waits f
+    × FramesOwn c f.left result fs
 
 abbrev pub FramesOwnAt : Names → Phase → List Frame → Type 0
 FramesOwnAt c running fs = FramesOwn c None None fs
@@ -103,7 +110,8 @@ DeclarationsOnce c [] = Unit {0}
 DeclarationsOnce c (fun w ps r body ∷ es) = DeclarationsOnce c es
 DeclarationsOnce c (merge w m j r body ∷ es) = DeclarationsOnce c es
 DeclarationsOnce c (shared x ∷ es) = DeclarationsOnce c es
-DeclarationsOnce c (proc w ps r body ∷ es) = StatementsOnce c r (with_params [] ps) body (λ n. false) × DeclarationsOnce c es
+DeclarationsOnce c (proc w ps r body ∷ es) =
+    StatementsOnce c r (with_params [] ps) body (λ n. false) × DeclarationsOnce c es
 
 -- each procedure and `main` use handles once
 pub record UsesHandlesOnce (p : ProgramTree) : Type 0 where
@@ -112,8 +120,11 @@ pub record UsesHandlesOnce (p : ProgramTree) : Type 0 where
 
 -- ---- states
 
--- Of these revisions each is named by at most one live place of those that no join has marked, and a marked one by none.
+-- Of these revisions each is named by at most one live place of those that no join has marked,
+-- and a marked one by none.
 pub record OneOwner (revs : Path → Option (Entry Local)) : Type 0 where
   pub one : (r : Path) (l : Local) (q : Path) → revs r ≡ Some (Plain l) → owned l q ≤ 1
-  pub two : (r r' : Path) (l l' : Local) (q : Path) → r ≢ r' → revs r ≡ Some (Plain l) → revs r' ≡ Some (Plain l') → owned l q + owned l' q ≤ 1
-  pub marked : (r : Path) (l : Local) (q : Path) (lq : Local) → revs r ≡ Some (Plain l) → revs q ≡ Some (Joined lq) → owned l q ≡ 0
+  pub two : (r r' : Path) (l l' : Local) (q : Path) → r ≢ r' → revs r ≡ Some (Plain l) → revs r' ≡ Some (Plain l')
+      → owned l q + owned l' q ≤ 1
+  pub marked : (r : Path) (l : Local) (q : Path) (lq : Local) → revs r ≡ Some (Plain l) → revs q ≡ Some (Joined lq)
+      → owned l q ≡ 0

@@ -1,6 +1,7 @@
 -- The places where a program breaks the affine rule, as lists.
 --
--- `copies`, `stores` and `loop_uses` are the places in statements with names in scope; those of second uses are given by
+-- `copies`, `stores` and `loop_uses` are the places in statements with names in scope;
+-- those of second uses are given by
 -- `twice` (in `SecondUses`). `places` is the list of a program's places for each breach,
 -- `breakages` that of all of them, and `first_breakage` the first.
 use Rattle.std.specs.Prelude.{ℕ, List, [], ◌∷◌, ◌++◌, Option, Some, None}
@@ -243,7 +244,8 @@ declarations_places c (proc w ps r body ∷ es) b = body_places c (with_params [
 
 -- the places where the program breaks the rule so
 abbrev pub places : ProgramTree → Breach → List ℕ
-places p b = declarations_places (outside p.declarations) p.declarations b ++ body_places (outside p.declarations) [] p.main b
+places p b = declarations_places (outside p.declarations) p.declarations b ++ body_places (outside p.declarations) []
+    p.main b
 
 -- ---- the first place
 
@@ -255,7 +257,8 @@ at_places b (at ∷ ps) = record { at = at; how = b } ∷ at_places b ps
 abbrev pub breakages : ProgramTree → List Breakage
 breakages p =
     at_places copied (places p copied)
-    ++ (at_places stored (places p stored) ++ (at_places used_twice (places p used_twice) ++ at_places in_loop (places p in_loop)))
+    ++ (at_places stored (places p stored)
+    ++ (at_places used_twice (places p used_twice) ++ at_places in_loop (places p in_loop)))
 
 -- what is at the least place, and there of the least number
 abbrev pub first_breakage : ProgramTree → Option Breakage

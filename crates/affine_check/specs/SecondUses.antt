@@ -98,7 +98,8 @@ expression_twice l (placed at s) K = expression_form_twice l s K
 
 abbrev pub expressions_twice : Locals → Expressions → (Name → List ℕ) → List ℕ
 expressions_twice l no_expressions K = []
-expressions_twice l (expression x xs) K = expression_twice l x (λ n. expressions_places n xs ++ K n) ++ expressions_twice l xs K
+expressions_twice l (expression x xs) K =
+    expression_twice l x (λ n. expressions_places n xs ++ K n) ++ expressions_twice l xs K
 
 abbrev pub right_side_twice : Locals → RightSide → (Name → List ℕ) → List ℕ
 right_side_twice l (plain e) K = []
@@ -115,7 +116,8 @@ abbrev mutual
   pub twice : Names → Locals → Statements → (Name → List ℕ) → List ℕ
   twice c l no_statements K = []
   twice c l (statements x rest) K =
-      statement_twice c l x (λ n. ahead n rest (K n)) ++ cond (statement_passes x) (twice c (locals_after c l x) rest K) []
+      statement_twice c l x (λ n. ahead n rest (K n)) ++ cond (statement_passes x) (twice c (locals_after c l x) rest K)
+      []
 
   pub statement_twice : Names → Locals → Statement → (Name → List ℕ) → List ℕ
   statement_twice c l (statement at line form) K = statement_form_twice c l form K

@@ -221,9 +221,11 @@ abbrev mutual
   pub broken_form : Names → Locals → Bool → Statements → StatementForm → Fault
   broken_form c l reached rest (bind w r) = broken_bind c l reached rest w r
   broken_form c l reached rest (assign w r) = both (stored c w) (copied_right l r)
-  broken_form c l reached rest (assign_cell w index e) = both (stored c w) (both (copied l false index) (copied l false e))
+  broken_form c l reached rest (assign_cell w index e) =
+      both (stored c w) (both (copied l false index) (copied l false e))
   broken_form c l reached rest (choose arms) = broken_arms c l reached None arms
-  broken_form c l reached rest (choose_or arms last) = both (broken_arms c l reached None arms) (broken_in c l reached None last)
+  broken_form c l reached rest (choose_or arms last) =
+      both (broken_arms c l reached None arms) (broken_in c l reached None last)
   broken_form c l reached rest (repeat test body) = both (copied l false test) (broken_in c l reached None body)
   broken_form c l reached rest (call w args) = copied_args l false None args
   broken_form c l reached rest (return e) = copied_value l e
@@ -235,21 +237,25 @@ abbrev mutual
   -- after this one
   pub broken_in : Names → Locals → Bool → Fault → Statements → Fault
   broken_in c l reached found no_statements = found
-  broken_in c l reached found (statements x rest) = broken_in c (locals_after c l x) (reached && statement_passes x) (both found (broken_statement c l reached rest x)) rest
+  broken_in c l reached found (statements x rest) = broken_in c (locals_after c l x) (reached && statement_passes x)
+      (both found (broken_statement c l reached rest x)) rest
 
   pub broken_arms : Names → Locals → Bool → Fault → Arms → Fault
   broken_arms c l reached found no_arms = found
-  broken_arms c l reached found (arm test body rest) = broken_arms c l reached (both found (both (copied l false test) (broken_in c l reached None body))) rest
+  broken_arms c l reached found (arm test body rest) =
+      broken_arms c l reached (both found (both (copied l false test) (broken_in c l reached None body))) rest
 
 -- ---- programs
 
 -- in the trails of the parameters, after this one
 abbrev pub misused_params : Locals → Statements → Fault → List Parameter → Fault
 misused_params l body found [] = found
-misused_params l body found (p ∷ ps) = misused_params l body (both found (misused true (find p.name.text l) p.name.text body)) ps
+misused_params l body found (p ∷ ps) =
+    misused_params l body (both found (misused true (find p.name.text l) p.name.text body)) ps
 
 abbrev pub broken_body : Names → List Parameter → Statements → Fault
-broken_body c ps body = both (misused_params (with_params [] ps) body None ps) (broken_in c (with_params [] ps) true None body)
+broken_body c ps body = both (misused_params (with_params [] ps) body None ps)
+    (broken_in c (with_params [] ps) true None body)
 
 abbrev pub broken_declaration : Names → Declaration → Fault
 broken_declaration c (fun w ps r body) = None

@@ -80,7 +80,8 @@ abbrev pub change_at : List Change → List ℕ → Option Change
 change_at [] p = None
 change_at (c ∷ cs) p = if same c.place p then Some c else change_at cs p
 
--- a location of this kind; of one that was not written, the snapshot is not known, and some value of its kind stands there
+-- a location of this kind; of one that was not written, the snapshot is not known,
+-- and some value of its kind stands there
 abbrev pub location_of : ValueKind → Option Change → Location
 location_of t None = record { base = zero_value t; written = None }
 location_of t (Some c) = record { base = c.root; written = Some c.value }
@@ -189,7 +190,9 @@ IsApart (p ∷ ps) = (is_known ps p ≡ false) × IsApart ps
 -- ---- what a revision's own run keeps
 
 module _ (s : Setting) (fuel : ℕ) where
-  -- on each state that an own run passes: its values are of their kinds, its locations and frames are as many as they should be, and its fuel and its forks are together at most the fuel of the start
+  -- on each state that an own run passes: its values are of their kinds,
+  -- its locations and frames are as many as they should be, and its fuel and its forks are together at most
+  -- the fuel of the start
   pub record OwnFits (r : Path) (l : Local) : Type 0 where
     pub kinded : IsKinded s r l
     pub shaped : IsShaped s r l
@@ -197,5 +200,6 @@ module _ (s : Setting) (fuel : ℕ) where
 
   abbrev pub OwnRunsFit : Type 0
   OwnRunsFit =
-      (stated : PathMap Part) (r : Path) (a l : Local) → Begins (calculus s) (calculus_parts s fuel) (main s fuel) stated r a
+      (stated : PathMap Part) (r : Path) (a l : Local)
+      → Begins (calculus s) (calculus_parts s fuel) (main s fuel) stated r a
       → Passes (calculus s) (calculus_parts s fuel) stated r a l → OwnFits r l

@@ -101,7 +101,8 @@ VerdictIsOne s fuel =
 -- a yes, or a no with the first revision in post-order that differs
 abbrev pub HasVerdict : Setting → ℕ → Type 0
 HasVerdict s fuel =
-    (stated : List Part) → SaysYes s fuel stated ⊎ ((r : Path) × (c : Computed Part) × SaysNo s fuel stated r (part_at stated r) c)
+    (stated : List Part) → SaysYes s fuel stated
+    ⊎ ((r : Path) × (c : Computed Part) × SaysNo s fuel stated r (part_at stated r) c)
 
 -- the end of a complete run that is not Twice has a trace
 abbrev pub EndHasTrace : Setting → ℕ → Type 0

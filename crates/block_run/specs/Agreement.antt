@@ -3,7 +3,8 @@
 --   AreWords    words, one by one
 --   Stands      what an instruction works on stands for a state, and what locations have for what the state sees there
 --   IsMoved     the state behind an instruction, and what stands for it
---   Agrees      what an instruction comes to on words stands for what it comes to on words of a kind, where that has a step
+--   Agrees      what an instruction comes to on words stands for what it comes to on words of a kind,
+--               where that has a step
 --               and this does not leave
 use Rattle.std.specs.Prelude.{ℕ, suc, ◌≡◌, ◌<◌, ◌^◌, true, ℤ, List, [], ◌∷◌, length, Option, Some, None, slice_get}
 use Rattle.rev_num.specs.Arith.{fits_i64}
@@ -45,7 +46,8 @@ pub record Stands (c : State ℕ) (r : Run) (read : ℕ → ℕ) : Type 0 where
 -- an instruction of a block leaves all else, but for a location that it may write
 pub record IsMoved (c c' : State ℕ) (r : Run) (locations : List (Location ℕ)) : Type 0 where
   pub run : IsRun c' r
-  pub others : c' ≡ record c { at = c'.at; locals = c'.locals; stack = c'.stack; fuel = c'.fuel; line = c'.line; locations = locations }
+  pub others : c' ≡ record c
+      { at = c'.at; locals = c'.locals; stack = c'.stack; fuel = c'.fuel; line = c'.line; locations = locations }
 
 abbrev pub Agrees : State ℕ → Comes ℕ → Plain → Type 0
 Agrees c stuck p = Unit {0}

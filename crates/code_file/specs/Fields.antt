@@ -43,15 +43,18 @@ number_8 whole (b ∷ rest) = Got b rest
 
 abbrev pub number_16 : Field ℕ
 number_16 whole bytes =
-    if nat_le 2 (length bytes) then Got (from_be_bytes w16 (take 2 bytes)) (drop 2 bytes) else Failed (fault.Truncated whole)
+    if nat_le 2 (length bytes) then Got (from_be_bytes w16 (take 2 bytes)) (drop 2 bytes)
+    else Failed (fault.Truncated whole)
 
 abbrev pub number_32 : Field ℕ
 number_32 whole bytes =
-    if nat_le 4 (length bytes) then Got (from_be_bytes w32 (take 4 bytes)) (drop 4 bytes) else Failed (fault.Truncated whole)
+    if nat_le 4 (length bytes) then Got (from_be_bytes w32 (take 4 bytes)) (drop 4 bytes)
+    else Failed (fault.Truncated whole)
 
 abbrev pub number_64 : Field ℕ
 number_64 whole bytes =
-    if nat_le 8 (length bytes) then Got (from_be_bytes w64 (take 8 bytes)) (drop 8 bytes) else Failed (fault.Truncated whole)
+    if nat_le 8 (length bytes) then Got (from_be_bytes w64 (take 8 bytes)) (drop 8 bytes)
+    else Failed (fault.Truncated whole)
 
 -- the value that the bytes of a field stand for, if they stand for one
 abbrev pub or_bad : {A : Type 0} → (at : ℕ) → Option A → List ℕ → Reading A

@@ -155,4 +155,5 @@ pub record IsBadField (bytes : List ℕ) (at end : ℕ) : Type 0 where
   pub none : (code : Code) (rest : List ℕ) → HasFile code → file_of code ≡ take end bytes ++ rest → ⊥
 
 abbrev pub BadFieldIsFirst : Type 0
-BadFieldIsFirst = (bytes : List ℕ) (at : ℕ) → IsFirstFault bytes (fault.BadField at) → (end : ℕ) × IsBadField bytes at end
+BadFieldIsFirst = (bytes : List ℕ) (at : ℕ) → IsFirstFault bytes (fault.BadField at) → (end : ℕ)
+    × IsBadField bytes at end

@@ -25,7 +25,8 @@ abbrev pub flag_of : ℕ → Option Bool
 flag_of n = if nat_eq n 0 then Some false else if nat_eq n 1 then Some true else None
 
 abbrev pub kind_of : ℕ → Option ValueKind
-kind_of n = if nat_eq n 0 then Some kind.Int else if nat_eq n 1 then Some kind.Bool else if nat_eq n 2 then Some kind.Rev else None
+kind_of n = if nat_eq n 0 then Some kind.Int else if nat_eq n 1 then Some kind.Bool else if nat_eq n 2
+    then Some kind.Rev else None
 
 -- the kind of a result, or 3 for none
 abbrev pub result_of : ℕ → Option (Option ValueKind)

@@ -50,7 +50,15 @@ var wide before = do
   cells ← tested (only (are_cells wide array before)) number_32
   start ← tested (only (is_start kind)) number_64
   merge ← tested (only (is_merge cumulative)) number_16
-  give (record { name = name'; cumulative = cumulative; kind = kind; array = array; cells = cells; start = start; merge = merge })
+  give (record {
+    name = name';
+    cumulative = cumulative;
+    kind = kind;
+    array = array;
+    cells = cells;
+    start = start;
+    merge = merge;
+  })
 
 unfoldable pub vars : (wide : Bool) → Field (List CodeVar)
 vars wide = do

@@ -83,6 +83,7 @@ impl<'a> Cursor<'a> {
         Ok(front)
     }
 
+    /// The next byte. Where there is none, the bytes end too early.
     pub fn number_8(&mut self) -> Result<u8, ReadFault>
         ensures reads { Follows
             (field.number_8 self.old.whole self.old.rest.now) result self.new.rest.now }
@@ -97,6 +98,7 @@ impl<'a> Cursor<'a> {
         }
     }
 
+    /// The number of the next two bytes, the greater one first.
     pub fn number_16(&mut self) -> Result<u16, ReadFault>
         ensures reads { Follows
             (field.number_16 self.old.whole self.old.rest.now) result self.new.rest.now }
@@ -106,6 +108,7 @@ impl<'a> Cursor<'a> {
         Ok(u16::from_be_bytes([b[0], b[1]]))
     }
 
+    /// The number of the next four bytes, the greatest first.
     pub fn number_32(&mut self) -> Result<u32, ReadFault>
         ensures reads { Follows
             (field.number_32 self.old.whole self.old.rest.now) result self.new.rest.now }
@@ -115,6 +118,7 @@ impl<'a> Cursor<'a> {
         Ok(u32::from_be_bytes([b[0], b[1], b[2], b[3]]))
     }
 
+    /// The number of the next eight bytes, the greatest first.
     pub fn number_64(&mut self) -> Result<u64, ReadFault>
         ensures reads { Follows
             (field.number_64 self.old.whole self.old.rest.now) result self.new.rest.now }

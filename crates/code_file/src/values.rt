@@ -8,6 +8,7 @@ use code_tables::has_cells;
 use rev_code::BlockClass;
 use rev_num::ValueKind;
 
+/// The truth value that a byte stands for, if it is 0 or 1.
 pub fn flag_of(n: u8) -> Option<bool>
     ensures { result ≡ part.flag_of n }
 {
@@ -18,6 +19,7 @@ pub fn flag_of(n: u8) -> Option<bool>
     }
 }
 
+/// The kind that a byte stands for: 0, 1 and 2 are int, bool and rev.
 pub fn kind_of(n: u8) -> Option<ValueKind>
     ensures { result ≡ part.kind_of n }
 {
@@ -42,6 +44,7 @@ pub fn result_of(n: u8) -> Option<Option<ValueKind>>
     }
 }
 
+/// The class of a block that a byte stands for: 0 to 3 are fun, merge, proc and `main`.
 pub fn class_of(n: u8) -> Option<BlockClass>
     ensures { result ≡ part.class_of n }
 {
@@ -54,6 +57,7 @@ pub fn class_of(n: u8) -> Option<BlockClass>
     }
 }
 
+/// The version of the file that a number stands for, 1 to 3.
 pub fn version_of(n: u16) -> Option<Version>
     ensures { result ≡ part.version_of n }
 {

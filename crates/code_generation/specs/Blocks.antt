@@ -12,4 +12,5 @@ abbrev pub BlocksAreWell : Type 0
 BlocksAreWell = (p : ProgramTree) → blocks_well (code_of p) ≡ true
 
 abbrev pub BlocksAreCounted : Type 0
-BlocksAreCounted = (p : ProgramTree) → (count_class is_value_class (code_of p).blocks ≡ funs p.declarations) × (count_class is_procedure (code_of p).blocks ≡ procs p.declarations)
+BlocksAreCounted = (p : ProgramTree) → (count_class is_value_class (code_of p).blocks ≡ funs p.declarations)
+    × (count_class is_procedure (code_of p).blocks ≡ procs p.declarations)

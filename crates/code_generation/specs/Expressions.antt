@@ -70,8 +70,10 @@ unary_code u.Not = i.Not
 -- The code behind a left operand: the right operand has this size, and this code at each place. `&&` and the two bars
 -- leave out their right operand where the left one decides.
 abbrev pub link_code : BinaryOp → (size : ℕ) → (code : ℕ → List Instr) → (at : ℕ) → List Instr
-link_code b.And size code at = i.JumpIfFalse (at + 1 + size + 1) ∷ code (at + 1) ++ i.Jump (at + size + 3) ∷ i.PushBool false ∷ []
-link_code b.Or size code at = i.JumpIfTrue (at + 1 + size + 1) ∷ code (at + 1) ++ i.Jump (at + size + 3) ∷ i.PushBool true ∷ []
+link_code b.And size code at =
+    i.JumpIfFalse (at + 1 + size + 1) ∷ code (at + 1) ++ i.Jump (at + size + 3) ∷ i.PushBool false ∷ []
+link_code b.Or size code at =
+    i.JumpIfTrue (at + 1 + size + 1) ∷ code (at + 1) ++ i.Jump (at + size + 3) ∷ i.PushBool true ∷ []
 link_code b.Add size code at = code at ++ i.Add ∷ []
 link_code b.Sub size code at = code at ++ i.Sub ∷ []
 link_code b.Mul size code at = code at ++ i.Mul ∷ []
@@ -114,7 +116,8 @@ abbrev mutual
       ++ i.Jump (pick_end at test x y)
       ∷ expression_code n scope y (pick_no at test x)
   form_code n scope (unary op e) at = expression_code n scope e at ++ unary_code op ∷ []
-  form_code n scope (chain first rest) at = expression_code n scope first at ++ links_code n scope rest (at + expression_size first)
+  form_code n scope (chain first rest) at =
+      expression_code n scope first at ++ links_code n scope rest (at + expression_size first)
 
   -- arguments, from left to right
   pub expressions_code : Numbers → Scope → Expressions → (at : ℕ) → List Instr

@@ -113,7 +113,8 @@ merge_block n m j r body = record {
 -- the code of a body with these parameters and this result, whose first layout has this number
 abbrev pub body_code : Numbers → List Parameter → Option ValueKind → Statements → (layout : ℕ) → List Instr
 body_code n ps result body layout =
-    statements_code n (with_params [] 0 ps) body (record { at = 0; local = length ps; layout = layout }) ++ end_code result body
+    statements_code n (with_params [] 0 ps) body (record { at = 0; local = length ps; layout = layout }) ++ end_code
+    result body
 
 abbrev pub body_locals : Names → List Parameter → Statements → List ValueKind
 body_locals c ps body = kinds_of ps ++ statements_kinds c (scopes.with_params [] ps) body

@@ -17,16 +17,20 @@ use Rattle.code_generation.specs.Prints.{statements_kinds, statements_layouts}
 use Rattle.code_generation.specs.Generated.{code_of}
 
 abbrev pub ExpressionSizes : Type 0
-ExpressionSizes = (n : Numbers) (scope : Scope) (e : Expression) (at : ℕ) → length (expression_code n scope e at) ≡ expression_size e
+ExpressionSizes = (n : Numbers) (scope : Scope) (e : Expression) (at : ℕ)
+    → length (expression_code n scope e at) ≡ expression_size e
 
 abbrev pub StatementSizes : Type 0
-StatementSizes = (n : Numbers) (scope : Scope) (xs : Statements) (s : Spot) → length (statements_code n scope xs s) ≡ statements_size n xs
+StatementSizes = (n : Numbers) (scope : Scope) (xs : Statements) (s : Spot)
+    → length (statements_code n scope xs s) ≡ statements_size n xs
 
 abbrev pub LocalsAreCounted : Type 0
 LocalsAreCounted = (c : Names) (l : Locals) (xs : Statements) → length (statements_kinds c l xs) ≡ statements_lets xs
 
 abbrev pub LayoutsAreCounted : Type 0
-LayoutsAreCounted = (c : Names) (l : Locals) (texts : ℕ) (xs : Statements) → length (statements_layouts c l texts xs) ≡ statements_prints xs
+LayoutsAreCounted = (c : Names) (l : Locals) (texts : ℕ) (xs : Statements)
+    → length (statements_layouts c l texts xs) ≡ statements_prints xs
 
 abbrev pub JumpsStayInside : Type 0
-JumpsStayInside = (p : ProgramTree) (n : ℕ) (b : CodeBlock) (at : ℕ) (x : Instr) → slice_get (code_of p).blocks n ≡ Some b → slice_get b.instrs at ≡ Some x → bad_jump b at (target x) ≡ false
+JumpsStayInside = (p : ProgramTree) (n : ℕ) (b : CodeBlock) (at : ℕ) (x : Instr)
+    → slice_get (code_of p).blocks n ≡ Some b → slice_get b.instrs at ≡ Some x → bad_jump b at (target x) ≡ false

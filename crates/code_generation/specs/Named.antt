@@ -26,10 +26,13 @@ FunsStand = (p : ProgramTree) (name : Name) (f : Callee) → fun_named p.declara
 pub record ProcStands (p : ProgramTree) (name : Name) (f : Callee) : Type 0 where
   pub layout : ℕ
   pub params : (procedure_named (procedures p) name).params ≡ names_of f.params
-  pub stands : slice_get (code_of p).blocks ((numbers p).proc name) ≡ Some (proc_block (numbers p) (outside p.declarations) f.params f.result (procedure_named (procedures p) name).body layout)
+  pub stands : slice_get (code_of p).blocks ((numbers p).proc name)
+      ≡ Some (proc_block (numbers p) (outside p.declarations) f.params f.result
+      (procedure_named (procedures p) name).body layout)
 
 abbrev pub ProcsStand : Type 0
-ProcsStand = (p : ProgramTree) (name : Name) (f : Callee) → proc_named p.declarations name ≡ Some f → ProcStands p name f
+ProcsStand = (p : ProgramTree) (name : Name) (f : Callee) → proc_named p.declarations name ≡ Some f
+    → ProcStands p name f
 
 -- a merge, by how many are declared before it
 pub record MergeStands (p : ProgramTree) (k : ℕ) (d : MergeDef) : Type 0 where
@@ -37,7 +40,8 @@ pub record MergeStands (p : ProgramTree) (k : ℕ) (d : MergeDef) : Type 0 where
   pub j : PlacedName
   pub root : PlacedName
   pub params : d.params ≡ m.text ∷ j.text ∷ root.text ∷ []
-  pub stands : slice_get (code_of p).blocks (merge_number k p.declarations) ≡ Some (merge_block (numbers p) m j root d.body)
+  pub stands : slice_get (code_of p).blocks (merge_number k p.declarations)
+      ≡ Some (merge_block (numbers p) m j root d.body)
 
 abbrev pub MergesStand : Type 0
 MergesStand = (p : ProgramTree) (k : ℕ) (d : MergeDef) → slice_get (merges_in p) k ≡ Some d → MergeStands p k d
@@ -46,4 +50,5 @@ MergesStand = (p : ProgramTree) (k : ℕ) (d : MergeDef) → slice_get (merges_i
 abbrev pub VariablesLie : Type 0
 VariablesLie =
     (p : ProgramTree) (name : Name) (x : SharedVariable) → variable_named (variables p) name ≡ Some x
-    → place_from 0 (code_of p).vars ((numbers p).var name) ≡ Some (record { var = var_of p.declarations x; first = x.info.base })
+    → place_from 0 (code_of p).vars ((numbers p).var name)
+    ≡ Some (record { var = var_of p.declarations x; first = x.info.base })

@@ -40,7 +40,15 @@ has_an_array = program (versioned_array "a" kind.Int 65 ∷ []) []
 
 abbrev pub has_an_array_code : Code
 has_an_array_code = record {
-  vars = record { name = codes "a"; cumulative = false; kind = kind.Int; array = true; cells = 65; start = 0; merge = 65535 } ∷ [];
+  vars = record {
+    name = codes "a";
+    cumulative = false;
+    kind = kind.Int;
+    array = true;
+    cells = 65;
+    start = 0;
+    merge = 65535;
+  } ∷ [];
   texts = [];
   layouts = [];
   blocks = main_of [] (i.Return ∷ []) ∷ [];
@@ -88,7 +96,8 @@ abbrev pub turns : List Statement
 turns =
     let_ 8 "i" (value (int 0))
     ∷ while 9 (op (op (var "i") b.Lt inputs) b.And (bool true))
-    (let_ 9 "t" (value (input (var "i"))) ∷ assign 9 "low" (value (var "t")) ∷ print 9 (quoted "at" ∷ item (var "t") ∷ []) ∷ [])
+    (let_ 9 "t" (value (input (var "i"))) ∷ assign 9 "low" (value (var "t")) ∷ print 9
+    (quoted "at" ∷ item (var "t") ∷ []) ∷ [])
     ∷ t.statement 0 10 (t.choose_or
     (arms_of
     ((op (var "low") b.Gt (int 1), statements_of (let_ 10 "t" (value none) ∷ rjoin 10 (var "t") ∷ []))
@@ -136,7 +145,8 @@ least_code = record {
   params = 3;
   result = Some kind.Int;
   locals = kind.Int ∷ kind.Int ∷ kind.Int ∷ [];
-  instrs = i.LoadLocal 1 ∷ i.LoadLocal 0 ∷ i.Lt ∷ i.JumpIfFalse 6 ∷ i.LoadLocal 1 ∷ i.Jump 7 ∷ i.LoadLocal 0 ∷ i.Return ∷ [];
+  instrs = i.LoadLocal 1 ∷ i.LoadLocal 0 ∷ i.Lt ∷ i.JumpIfFalse 6 ∷ i.LoadLocal 1 ∷ i.Jump 7 ∷ i.LoadLocal 0 ∷ i.Return
+      ∷ [];
 }
 
 abbrev pub leaf_code : CodeBlock
@@ -145,7 +155,8 @@ leaf_code = record {
   params = 1;
   result = Some kind.Rev;
   locals = kind.Int ∷ kind.Rev ∷ [];
-  instrs = i.Charge 5 ∷ i.LoadLocal 0 ∷ i.Apply 0 ∷ i.Fork 2 ∷ i.StoreLocal 1 ∷ i.Charge 5 ∷ i.LoadLocal 1 ∷ i.Return ∷ [];
+  instrs = i.Charge 5 ∷ i.LoadLocal 0 ∷ i.Apply 0 ∷ i.Fork 2 ∷ i.StoreLocal 1 ∷ i.Charge 5 ∷ i.LoadLocal 1 ∷ i.Return
+      ∷ [];
 }
 
 -- The jump at 10 leads behind the last `return`, so the zero value stands there.
@@ -167,7 +178,8 @@ even_code = record {
 abbrev pub all_forms_main : CodeBlock
 all_forms_main = main_of (kind.Int ∷ kind.Int ∷ kind.Rev ∷ kind.Bool ∷ kind.Bool ∷ [])
     (i.Charge 8 ∷ push 0 ∷ i.StoreLocal 0
-    ∷ i.Charge 9 ∷ i.LoadLocal 0 ∷ i.CountInput ∷ i.Lt ∷ i.JumpIfFalse 10 ∷ i.PushBool true ∷ i.Jump 11 ∷ i.PushBool false ∷ i.JumpIfFalse 23
+    ∷ i.Charge 9 ∷ i.LoadLocal 0 ∷ i.CountInput ∷ i.Lt ∷ i.JumpIfFalse 10 ∷ i.PushBool true ∷ i.Jump 11 ∷ i.PushBool
+    false ∷ i.JumpIfFalse 23
     ∷ i.Charge 9 ∷ i.LoadLocal 0 ∷ i.LoadInput ∷ i.StoreLocal 1
     ∷ i.Charge 9 ∷ i.LoadLocal 1 ∷ i.StoreShared 0
     ∷ i.Charge 9 ∷ i.LoadLocal 1 ∷ i.Print 1
@@ -176,7 +188,8 @@ all_forms_main = main_of (kind.Int ∷ kind.Int ∷ kind.Rev ∷ kind.Bool ∷ k
     ∷ i.Charge 10 ∷ i.PushNone ∷ i.StoreLocal 2
     ∷ i.Charge 10 ∷ i.LoadLocal 2 ∷ i.Join
     ∷ i.Jump 52
-    ∷ push 0 ∷ i.LoadCell 1 ∷ i.Not ∷ i.JumpIfTrue 41 ∷ i.PushBool false ∷ i.Jump 42 ∷ i.PushBool true ∷ i.JumpIfFalse 48
+    ∷ push 0 ∷ i.LoadCell 1 ∷ i.Not ∷ i.JumpIfTrue 41 ∷ i.PushBool false ∷ i.Jump 42 ∷ i.PushBool true ∷ i.JumpIfFalse
+    48
     ∷ i.Charge 10 ∷ i.LoadLocal 0 ∷ i.Call 3 ∷ i.Pop
     ∷ i.Jump 52
     ∷ i.Charge 10 ∷ push 1 ∷ i.Fork 2 ∷ i.Pop
@@ -193,7 +206,15 @@ abbrev pub all_forms_code : Code
 all_forms_code = record {
   vars =
       record { name = codes "low"; cumulative = true; kind = kind.Int; array = false; cells = 1; start = 0; merge = 1 }
-      ∷ record { name = codes "cells"; cumulative = false; kind = kind.Bool; array = true; cells = 2; start = 1; merge = 65535 }
+      ∷ record {
+        name = codes "cells";
+        cumulative = false;
+        kind = kind.Bool;
+        array = true;
+        cells = 2;
+        start = 1;
+        merge = 65535;
+      }
       ∷ [];
   texts = codes "odd" ∷ codes "at" ∷ codes "is" ∷ [];
   layouts = (show.Text 0 ∷ []) ∷ (show.Text 1 ∷ show.Int ∷ []) ∷ (show.Bool ∷ show.Text 2 ∷ show.Int ∷ []) ∷ [];

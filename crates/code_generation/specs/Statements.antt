@@ -23,13 +23,16 @@ ahead s size = record { at = s.at + size; local = s.local; layout = s.layout }
 
 -- behind statements, or behind arms
 abbrev pub behind_statement : Numbers → Spot → Statement → Spot
-behind_statement n s x = record { at = s.at + statement_size n x; local = s.local + statement_lets x; layout = s.layout + statement_prints x }
+behind_statement n s x = record
+    { at = s.at + statement_size n x; local = s.local + statement_lets x; layout = s.layout + statement_prints x }
 
 abbrev pub behind_block : Numbers → Spot → Statements → Spot
-behind_block n s xs = record { at = s.at + statements_size n xs; local = s.local + statements_lets xs; layout = s.layout + statements_prints xs }
+behind_block n s xs = record
+    { at = s.at + statements_size n xs; local = s.local + statements_lets xs; layout = s.layout + statements_prints xs }
 
 abbrev pub behind_arms : Numbers → Spot → (has_last : Bool) → Arms → Spot
-behind_arms n s has_last arms = record { at = s.at + arms_size n has_last arms; local = s.local + arms_lets arms; layout = s.layout + arms_prints arms }
+behind_arms n s has_last arms = record
+    { at = s.at + arms_size n has_last arms; local = s.local + arms_lets arms; layout = s.layout + arms_prints arms }
 
 -- ---- parts of statements
 
@@ -48,7 +51,8 @@ right_side_code n scope (tried p handle) at = expression_code n scope handle at 
 abbrev pub items_code : Numbers → Scope → List PrintItem → (at : ℕ) → List Instr
 items_code n scope [] at = []
 items_code n scope (text p bytes ∷ items) at = items_code n scope items at
-items_code n scope (shown e ∷ items) at = expression_code n scope e at ++ items_code n scope items (at + expression_size e)
+items_code n scope (shown e ∷ items) at =
+    expression_code n scope e at ++ items_code n scope items (at + expression_size e)
 
 abbrev pub returned_code : Numbers → Scope → Option Expression → (at : ℕ) → List Instr
 returned_code n scope None at = i.Return ∷ []
@@ -101,7 +105,8 @@ abbrev mutual
   statement_form_code n scope (call w args) head s =
       expressions_code n scope args s.at ++ i.Call (n.proc w.text) ∷ dropped (n.gives w.text)
   statement_form_code n scope (return e) head s = returned_code n scope e s.at
-  statement_form_code n scope (fork w args) head s = expressions_code n scope args s.at ++ i.Fork (n.proc w.text) ∷ i.Pop ∷ []
+  statement_form_code n scope (fork w args) head s =
+      expressions_code n scope args s.at ++ i.Fork (n.proc w.text) ∷ i.Pop ∷ []
   statement_form_code n scope (join e) head s = expression_code n scope e s.at ++ i.Join ∷ []
   statement_form_code n scope (print items) head s = items_code n scope items s.at ++ i.Print s.layout ∷ []
   statement_form_code n scope (assert e) head s = expression_code n scope e s.at ++ i.Assert ∷ []

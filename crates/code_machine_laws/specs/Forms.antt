@@ -19,14 +19,16 @@ pub data ComesTo {H : Type 0} (s : Setting H) (c : State H) : Comes H → Type 0
   -- another place, other words in its frames and on its stack, or more text behind its own
   to_next : (block at : ℕ) (locals stack : List (Word H)) (below : List (Frame H)) (text : List ℕ)
       → Grows c.text text
-      → ComesTo s c (goes (record c { block = block; at = at; locals = locals; stack = stack; below = below; text = text }))
+      → ComesTo s c (goes (record c
+      { block = block; at = at; locals = locals; stack = stack; below = below; text = text }))
   to_write : (rest : List (Word H)) (l : ℕ) (w : Word H) → ComesTo s c (after_write c rest l w)
   to_payment : (line fuel : ℕ) → c.fuel ≡ suc fuel
       → ComesTo s c (goes (record c { at = suc c.at; fuel = fuel; line = line }))
   -- the line may be one that the state could not pay
   to_trap : (line : ℕ) (e : Cause) → ComesTo s c (traps (record c { line = line }) e)
   -- of a procedure, whose arguments are the words on top
-  to_fork : (n : ℕ) (body : CodeBlock) (args : List (Word H)) → only is_procedure (slice_get s.code.blocks n) ≡ Some body
+  to_fork : (n : ℕ) (body : CodeBlock) (args : List (Word H))
+      → only is_procedure (slice_get s.code.blocks n) ≡ Some body
       → arguments (params body) c.stack ≡ Some args → ComesTo s c (forks c n args)
   -- of the handle on top
   to_join : (try : Bool) (h : H) (rest : List (Word H)) → c.stack ≡ rev (Some h) ∷ rest → ComesTo s c (joins c try h)

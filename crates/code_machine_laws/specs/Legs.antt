@@ -39,7 +39,8 @@ pub data IsJoinTrap : CodeTrap → Type 0 where
 -- a leg's own trap is never that of a join
 abbrev pub OwnTrapsAreNotOfJoin : Type 0
 OwnTrapsAreNotOfJoin =
-    (code : Code) (inputs : List ℤ) (share : ℕ) (c c' : State ℕ) (e : Cause) → IsLeg (setting code inputs share) c (traps c' e)
+    (code : Code) (inputs : List ℤ) (share : ℕ) (c c' : State ℕ) (e : Cause)
+    → IsLeg (setting code inputs share) c (traps c' e)
     → of_join (own_trap c' e) ≡ false
 
 -- a join's always is

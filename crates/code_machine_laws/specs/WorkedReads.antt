@@ -16,7 +16,15 @@ use Rattle.code_machine_laws.specs.Reads.{Read, location, input, count, reach_re
 use Rattle.code_machine_laws.specs.Moved.{AllAgree}
 
 abbrev scalar_x : CodeVar
-scalar_x = record { name = codes "x"; cumulative = false; kind = k.Int; array = false; cells = 1; start = 0; merge = 65535 }
+scalar_x = record {
+  name = codes "x";
+  cumulative = false;
+  kind = k.Int;
+  array = false;
+  cells = 1;
+  start = 0;
+  merge = 65535;
+}
 
 abbrev body_of : List Instr → CodeBlock
 body_of instrs' = record { class = class.Proc; params = 0; result = None; locals = []; instrs = instrs' }
@@ -26,7 +34,8 @@ code_of instrs' = record { vars = scalar_x ∷ []; texts = []; layouts = []; blo
 
 abbrev pub reads_by : List Instr → List ℤ → List (Read ℕ)
 reads_by instrs' inputs' =
-    reach_reads (setting (code_of instrs') inputs' 10) 20 (start 0 (body_of instrs') [] (start_locations (scalar_x ∷ [])) 100)
+    reach_reads (setting (code_of instrs') inputs' 10) 20
+    (start 0 (body_of instrs') [] (start_locations (scalar_x ∷ [])) 100)
 
 abbrev two : List ℤ
 two = pos 3 ∷ pos 4 ∷ []
@@ -34,7 +43,8 @@ two = pos 3 ∷ pos 4 ∷ []
 -- x = input[0] * 10 reads the number alone, and not x, though its root is the snapshot's
 abbrev pub NumberAlone : Type 0
 NumberAlone =
-    reads_by (i.Charge 1 ∷ i.PushInt (pos 0) ∷ i.LoadInput ∷ i.PushInt (pos 10) ∷ i.Mul ∷ i.StoreShared 0 ∷ i.Return ∷ []) two
+    reads_by (i.Charge 1 ∷ i.PushInt (pos 0) ∷ i.LoadInput ∷ i.PushInt (pos 10) ∷ i.Mul ∷ i.StoreShared 0 ∷ i.Return
+    ∷ []) two
     ≡ input 0 (pos 3) ∷ []
 
 -- what was written is not read any more

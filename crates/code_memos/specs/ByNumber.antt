@@ -55,7 +55,8 @@ module _ (g : CodeRun) (number : ℕ) (main : IsMain g number) (fuel : ℕ) wher
   -- these entries are the memo of this run
   abbrev pub HasMemo : List Known → Type 0
   HasMemo es =
-      (rs : List Path) × (h : Global (Local Path)) × Complete (machine g) (start (machine g) (first g number main fuel)) rs h
+      (rs : List Path) × (h : Global (Local Path))
+      × Complete (machine g) (start (machine g) (first g number main fuel)) rs h
       × MemoOf g number main fuel h es
 
   -- ---- repeating
@@ -79,7 +80,8 @@ module _ (g : CodeRun) (number : ℕ) (main : IsMain g number) (fuel : ℕ) wher
     -- so many revisions of this run have a valid entry of these
     abbrev pub HasReused : ℕ → Type 0
     HasReused n =
-        (rs : List Path) × (h : Global (Local Path)) × Complete (machine g) (start (machine g) (first g number main fuel)) rs h
+        (rs : List Path) × (h : Global (Local Path))
+        × Complete (machine g) (start (machine g) (first g number main fuel)) rs h
         × ReusedOf g number main fuel h es n
 
 -- each is of some run of this code
@@ -90,7 +92,8 @@ KnownFor code e =
 
 -- ---- laws, of the worlds that legal schedules reach
 
-abbrev pub OfWorlds : ((g : CodeRun) (number : ℕ) (main : IsMain g number) (fuel : ℕ) → World (Local ℕ) → Type 0) → Type 0
+abbrev pub OfWorlds : ((g : CodeRun) (number : ℕ) (main : IsMain g number) (fuel : ℕ) → World (Local ℕ) → Type 0)
+    → Type 0
 OfWorlds Law =
     (g : CodeRun) → IsVerified g → (number : ℕ) (main : IsMain g number) (fuel : ℕ) (ns : List ℕ) (w : World (Local ℕ))
     → Replays (numbered g) (begin (numbered g) (start_in g number main.body fuel)) ns w → Law g number main fuel w
@@ -98,7 +101,8 @@ OfWorlds Law =
 -- a revision that has listed nothing and that its leg ends
 abbrev pub LeafHasEntry : Type 0
 LeafHasEntry =
-    (g : CodeRun) → IsVerified g → (number : ℕ) (main : IsMain g number) (fuel : ℕ) (ns : List ℕ) (w : Entries (Local ℕ))
+    (g : CodeRun) → IsVerified g
+    → (number : ℕ) (main : IsMain g number) (fuel : ℕ) (ns : List ℕ) (w : Entries (Local ℕ))
     → Replays (numbered g) (begin (numbered g) (start_in g number main.body fuel)) ns (Listing w)
     → (n : ℕ) (r : Path) (c : State ℕ) (l : Local ℕ) → at_number w n ≡ Some (r, Plain (at_work c)) → c.listed ≡ []
     → ended_by (leg g c) ≡ Some l
@@ -118,14 +122,16 @@ CountedByNumber =
     → HasReused g number main fuel es (length paths))
 
 -- it is then one of those with a valid entry
-pub record IsAdopted (g : CodeRun) (number : ℕ) (main : IsMain g number) (fuel : ℕ) (w : Entries (Local ℕ)) (n : ℕ) (r : Path)
+pub record IsAdopted (g : CodeRun) (number : ℕ) (main : IsMain g number) (fuel : ℕ) (w : Entries (Local ℕ)) (n : ℕ)
+    (r : Path)
     (f : Fresh Path) (es : List Known) (e : Known) : Type 0 where
   pub adopts : Adopts g w n r (renamed_end (number_of (paths_of w)) (rerooted f.snapshot e.end))
   pub valid : IsAmong g number main fuel e es → HasValid g number main fuel es r
 
 abbrev pub AdoptByNumber : Type 0
 AdoptByNumber =
-    (g : CodeRun) → IsVerified g → (number : ℕ) (main : IsMain g number) (fuel : ℕ) (ns : List ℕ) (w : Entries (Local ℕ))
+    (g : CodeRun) → IsVerified g
+    → (number : ℕ) (main : IsMain g number) (fuel : ℕ) (ns : List ℕ) (w : Entries (Local ℕ))
     → Replays (numbered g) (begin (numbered g) (start_in g number main.body fuel)) ns (Listing w)
     → (n : ℕ) (r : Path) (c : State ℕ) → at_number w n ≡ Some (r, Plain (at_work c)) → c.listed ≡ []
     → (x : FreshByNumber g number main fuel (paths_of w) r (at_work c))

@@ -22,7 +22,8 @@ IsUnlisted l = (l.phase ≡ running) × (l.state.listed ≡ [])
 
 -- ---- by paths
 
-pub record BeginsHere (g : CodeRun) (number : ℕ) (main : IsMain g number) (fuel : ℕ) (r : Path) (l : Local Path) : Type 0 where
+pub record BeginsHere (g : CodeRun) (number : ℕ) (main : IsMain g number) (fuel : ℕ) (r : Path) (l : Local Path) : Type
+    0 where
   pub born : Born (machine g) (first g number main fuel) r l
   pub begins : Fresh Path
   pub fresh : IsFresh g.code begins l.state
@@ -36,7 +37,8 @@ UnlistedBegins =
 
 -- ---- by numbers
 
-pub record FreshByNumber (g : CodeRun) (number : ℕ) (main : IsMain g number) (fuel : ℕ) (t : List Path) (r : Path) (b : Local ℕ) : Type 0 where
+pub record FreshByNumber (g : CodeRun) (number : ℕ) (main : IsMain g number) (fuel : ℕ) (t : List Path) (r : Path)
+    (b : Local ℕ) : Type 0 where
   pub state : State Path
   pub numbered : IsNumbered t r (at_work state) b
   pub begins : BeginsHere g number main fuel r (at_work state)
@@ -46,7 +48,8 @@ pub record FreshByNumber (g : CodeRun) (number : ℕ) (main : IsMain g number) (
 
 abbrev pub UnlistedByNumber : Type 0
 UnlistedByNumber =
-    (g : CodeRun) → IsVerified g → (number : ℕ) (main : IsMain g number) (fuel : ℕ) (ns : List ℕ) (w : Entries (Local ℕ))
+    (g : CodeRun) → IsVerified g
+    → (number : ℕ) (main : IsMain g number) (fuel : ℕ) (ns : List ℕ) (w : Entries (Local ℕ))
     → Replays (numbered g) (begin (numbered g) (start_in g number main.body fuel)) ns (Listing w)
     → (n : ℕ) (r : Path) (b : Local ℕ) → at_number w n ≡ Some (r, Plain b) → IsUnlisted b
     → FreshByNumber g number main fuel (paths_of w) r b

@@ -30,7 +30,8 @@ ValidIsTheEnd =
     → EndsAs (with_inputs s inputs share) k f' c' e
 
 -- what a leg comes to and what it reads is the same whatever a handle is: f names the handles anew
-pub record LegIsRenamed {H K : Type 0} (f : H → K) (code : Code) (inputs : List ℤ) (share k m : ℕ) (c : State H) : Type 0 where
+pub record LegIsRenamed {H K : Type 0} (f : H → K) (code : Code) (inputs : List ℤ) (share k m : ℕ) (c : State H) : Type
+    0 where
   pub event :
       reach (setting code inputs share) k (renamed_as f m c)
       ≡ renamed_event f m (reach (setting code inputs share) k c)

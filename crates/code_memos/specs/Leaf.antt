@@ -2,7 +2,8 @@
 --   Fresh       what a revision begins with
 --   IsFresh     a state before its first instruction
 --   ended_by    the revision behind a leg that ends it
---   Known       what is kept of a leaf revision: what it began with, but for its snapshot; what it read; and what it left
+--   Known       what is kept of a leaf revision: what it began with, but for its snapshot;
+--               what it read; and what it left
 --   IsKnown     of this run
 --   IsValid     for a revision of another run that begins with this
 --   rerooted    what it left, over another snapshot: the roots of its writes are that snapshot's

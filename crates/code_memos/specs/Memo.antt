@@ -68,14 +68,16 @@ module _ (g : CodeRun) (number : ℕ) (main : IsMain g number) (fuel : ℕ) wher
 -- where the complete runs do not come to Twice, a revision has one entry, whatever the schedule
 abbrev pub OneEntry : Type 0
 OneEntry =
-    (g : CodeRun) → IsVerified g → (number : ℕ) (main : IsMain g number) (fuel : ℕ) (rs : List Path) (h : Revisions (machine g))
+    (g : CodeRun) → IsVerified g
+    → (number : ℕ) (main : IsMain g number) (fuel : ℕ) (rs : List Path) (h : Revisions (machine g))
     → Complete (machine g) (start (machine g) (first g number main fuel)) rs (Live h)
     → (e e' : Known) → IsEntry g number main fuel e → IsEntry g number main fuel e' → e.path ≡ e'.path → e ≡ e'
 
 -- and so two memos of it have the same entries
 abbrev pub OneMemo : Type 0
 OneMemo =
-    (g : CodeRun) → IsVerified g → (number : ℕ) (main : IsMain g number) (fuel : ℕ) (rs : List Path) (h : Revisions (machine g))
+    (g : CodeRun) → IsVerified g
+    → (number : ℕ) (main : IsMain g number) (fuel : ℕ) (rs : List Path) (h : Revisions (machine g))
     → Complete (machine g) (start (machine g) (first g number main fuel)) rs (Live h)
     → (es es' : List Known) → IsMemo g number main fuel es → IsMemo g number main fuel es'
     → (e : Known) → IsAmong g number main fuel e es → IsAmong g number main fuel e es'

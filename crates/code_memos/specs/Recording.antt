@@ -25,13 +25,15 @@ module _ (g : CodeRun) (number : ℕ) (main : IsMain g number) (fuel : ℕ) wher
 -- what is recorded at the end of a complete run is the memo
 abbrev pub RecordedIsMemo : Type 0
 RecordedIsMemo =
-    (g : CodeRun) → IsVerified g → (number : ℕ) (main : IsMain g number) (fuel : ℕ) (rs : List Path) (h : Revisions (machine g))
+    (g : CodeRun) → IsVerified g
+    → (number : ℕ) (main : IsMain g number) (fuel : ℕ) (rs : List Path) (h : Revisions (machine g))
     → Complete (machine g) (start (machine g) (first g number main fuel)) rs (Live h)
     → (es : List Known) → IsRecorded g number main fuel h es → IsMemo g number main fuel es
 
 -- ---- repeating
 
--- by these entries: each of these paths is of a leaf revision that has a valid one, and each revision of this state that
+-- by these entries: each of these paths is of a leaf revision that has a valid one,
+-- and each revision of this state that
 -- has listed no fork and no join is of these, or has none
 module _ (g : CodeRun) (number : ℕ) (main : IsMain g number) (fuel : ℕ) (es : List Known) where
   abbrev pub HasNone : Path → Type 0
@@ -39,13 +41,15 @@ module _ (g : CodeRun) (number : ℕ) (main : IsMain g number) (fuel : ℕ) (es 
 
   pub record IsCounted (h : Revisions (machine g)) (paths : List Path) : Type 0 where
     pub each : (r : Path) → IsIn r paths → HasValid g number main fuel es r
-    pub found : (r : Path) (x : Entry (Local Path)) → h r ≡ Some x → (local_of x).state.listed ≡ [] → IsIn r paths ⊎ HasNone r
+    pub found : (r : Path) (x : Entry (Local Path)) → h r ≡ Some x → (local_of x).state.listed ≡ [] → IsIn r paths
+        ⊎ HasNone r
     pub once : IsDistinct paths
 
 -- what is counted at the end of a complete run is how many leaf revisions have a valid entry
 abbrev pub CountedIsReused : Type 0
 CountedIsReused =
-    (g : CodeRun) → IsVerified g → (number : ℕ) (main : IsMain g number) (fuel : ℕ) (rs : List Path) (h : Revisions (machine g))
+    (g : CodeRun) → IsVerified g
+    → (number : ℕ) (main : IsMain g number) (fuel : ℕ) (rs : List Path) (h : Revisions (machine g))
     → Complete (machine g) (start (machine g) (first g number main fuel)) rs (Live h)
     → (es : List Known) (paths : List Path) → IsCounted g number main fuel es h paths
     → IsReused g number main fuel es (length paths)

@@ -27,7 +27,8 @@ pub record Adopts (g : CodeRun) (w : Entries (Local ℕ)) (n : ℕ) (r : Path) (
 abbrev pub ValidIsTheLeg : Type 0
 ValidIsTheLeg =
     (g : CodeRun) (path : Path) (c : State Path) (e : Known) (known : IsKnown (under g) (clock g c) path c e)
-    (inputs : List ℤ) (share : ℕ) (w : Entries (Local ℕ)) (n : ℕ) (r : Path) (t : List Path) (a : Local Path) (b : Local ℕ)
+    (inputs : List ℤ) (share : ℕ) (w : Entries (Local ℕ)) (n : ℕ) (r : Path) (t : List Path) (a : Local Path)
+    (b : Local ℕ)
     → at_number w n ≡ Some (r, Plain b) → IsNumbered t r a b
     → (f : Fresh Path) (d : State Path) → a ≡ at_work d → IsFresh g.code f d
     → length f.snapshot ≡ length known.begins.snapshot → IsValid e r f inputs

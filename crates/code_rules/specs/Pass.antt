@@ -2,7 +2,8 @@
 --   Note          what is known on arrival at an instruction: the shape of the stack, and whether on each way to it a
 --                 Charge stands behind the last Call or Fork
 --   Passed        an instruction that was passed, with what was known on arrival
---   arrival       what is known on arrival, from the instruction before and from earlier jumps: None where shapes differ
+--   arrival       what is known on arrival, from the instruction before and from earlier jumps:
+--                 None where shapes differ
 --   broken        the first rule that an instruction breaks
 --   block_fault   the first fault of a block, or what the block costs
 --   blocks_fault  the first fault of the instructions of blocks
@@ -121,14 +122,16 @@ joined (Some m) n = record { shape = n.shape; paid = m.paid && n.paid }
 abbrev pub jumped : Code → CodeBlock → ℕ → List Passed → Option Note
 jumped code b to [] = None
 jumped code b to (p ∷ done) =
-    if leads_to to (target p.instr) then Some (joined (jumped code b to done) (after code b p)) else jumped code b to done
+    if leads_to to (target p.instr) then Some (joined (jumped code b to done) (after code b p))
+    else jumped code b to done
 
 -- both ways together: the entry where there is none, and None where their shapes differ
 abbrev pub meet : Option Note → Option Note → Option Note
 meet None None = Some entry
 meet None (Some n) = Some n
 meet (Some m) None = Some m
-meet (Some m) (Some n) = if same_shape m.shape n.shape then Some (record { shape = m.shape; paid = m.paid && n.paid }) else None
+meet (Some m) (Some n) =
+    if same_shape m.shape n.shape then Some (record { shape = m.shape; paid = m.paid && n.paid }) else None
 
 abbrev pub arrival : Code → CodeBlock → List Passed → Option Note
 arrival code b done = meet (fallen code b done) (jumped code b (length done) done)
@@ -138,7 +141,8 @@ arrival code b done = meet (fallen code b done) (jumped code b (length done) don
 abbrev pub bad_jump : CodeBlock → ℕ → Option ℕ → Bool
 bad_jump b at None = false
 bad_jump b at (Some to) =
-    not (nat_lt to (length b.instrs)) || (not (nat_lt at to) && (is_value_class b.class || not (is_charge (slice_get b.instrs to))))
+    not (nat_lt to (length b.instrs))
+    || (not (nat_lt at to) && (is_value_class b.class || not (is_charge (slice_get b.instrs to))))
 
 -- ---- 2: operands
 
@@ -312,7 +316,8 @@ scan code costs n b done (x ∷ xs) =
 
 -- of block n
 abbrev pub block_fault : Code → List Cost → ℕ → CodeBlock → Result Cost (ℕ × Rule)
-block_fault code costs n b = if nat_eq (length b.instrs) 0 then Err (0, rule.FallsOff) else scan code costs n b [] b.instrs
+block_fault code costs n b =
+    if nat_eq (length b.instrs) 0 then Err (0, rule.FallsOff) else scan code costs n b [] b.instrs
 
 abbrev pub fault_or : ℕ → Result Cost (ℕ × Rule) → (Cost → Option Fault) → Option Fault
 fault_or n (Ok cost) rest = rest cost

@@ -141,7 +141,8 @@ is_int_merge (Some b) = is_merge_class b.class && nat_eq b.params 3 && are_three
 
 abbrev pub merges_well : Code → CodeVar → Bool
 merges_well code v =
-    if v.cumulative then same_kind v.kind k.Int && not (nat_eq v.merge no_merge) && is_int_merge (slice_get code.blocks v.merge)
+    if v.cumulative then same_kind v.kind k.Int && not (nat_eq v.merge no_merge) && is_int_merge
+    (slice_get code.blocks v.merge)
     else nat_eq v.merge no_merge
 
 abbrev pub is_var : Code → CodeVar → Bool
@@ -164,7 +165,8 @@ abbrev pub blocks_well : Code → Bool
 blocks_well code = ends_in_main code.blocks && list_all is_block code.blocks
 
 abbrev pub lines_well : Code → Bool
-lines_well code = list_all (list_all is_text_byte) code.texts && list_all (list_all (is_item (length code.texts))) code.layouts
+lines_well code = list_all (list_all is_text_byte) code.texts && list_all (list_all (is_item (length code.texts)))
+    code.layouts
 
 abbrev pub names_well : Code → Bool
 names_well code = blocks_well code && list_all (is_var code) code.vars && lines_well code
@@ -203,7 +205,8 @@ abbrev pub most_u16 : ℕ
 most_u16 = 65535
 
 abbrev pub is_small_block : CodeBlock → Bool
-is_small_block b = nat_le b.params most_params && nat_le (length b.locals) most_locals && nat_le (length b.instrs) most_u32
+is_small_block b = nat_le b.params most_params && nat_le (length b.locals) most_locals && nat_le (length b.instrs)
+    most_u32
 
 abbrev pub is_small_text : List ℕ → Bool
 is_small_text text = nat_le (length text) most_u32

@@ -12,5 +12,6 @@ of_tables r = record { block = 0; at = 0; rule = r }
 
 abbrev pub first_fault : Code → Option Fault
 first_fault code =
-    if names_well code then (if is_small code then blocks_fault code [] 0 code.blocks else Some (of_tables rule.LimitOf))
+    if names_well code then (if is_small code then blocks_fault code [] 0 code.blocks
+    else Some (of_tables rule.LimitOf))
     else Some (of_tables rule.BadOperand)

@@ -56,4 +56,5 @@ note_at code b at = known (arrival code b (before code b at))
 
 abbrev pub AcceptedIsCertified : Type 0
 AcceptedIsCertified =
-    (code : Code) (costs : List Cost) (n : ℕ) (b : CodeBlock) (cost : Cost) → block_fault code costs n b ≡ Ok cost → IsCertified code n b (note_at code b)
+    (code : Code) (costs : List Cost) (n : ℕ) (b : CodeBlock) (cost : Cost) → block_fault code costs n b ≡ Ok cost
+    → IsCertified code n b (note_at code b)

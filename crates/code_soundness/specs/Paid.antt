@@ -12,8 +12,10 @@ use Rattle.code_soundness.specs.Prices.{AllCertified, Prices, Bears, place, tota
 abbrev pub UsesUp : {H : Type 0} → Code → (ℕ → ℕ → Note) → Prices → State H → Comes H → Type 0
 UsesUp code notes p c (goes c') = total code notes p c' + p.each ≤ total code notes p c
 UsesUp code notes p c (forks c' n args) =
-    (place code notes p c.block (suc c.at) + p.paid + p.each ≤ place code notes p c.block c.at) × ((len : ℕ) × (place code notes p n 0 ≤ p.left len 0 + p.other))
-UsesUp code notes p c (joins c' try h) = place code notes p c.block (suc c.at) + p.each ≤ place code notes p c.block c.at
+    (place code notes p c.block (suc c.at) + p.paid + p.each ≤ place code notes p c.block c.at)
+    × ((len : ℕ) × (place code notes p n 0 ≤ p.left len 0 + p.other))
+UsesUp code notes p c (joins c' try h) =
+    place code notes p c.block (suc c.at) + p.each ≤ place code notes p c.block c.at
 UsesUp code notes p c (traps c' e) = Unit {0}
 UsesUp code notes p c (ends c' w) = Unit {0}
 UsesUp code notes p c stuck = Unit {0}
@@ -22,14 +24,17 @@ UsesUp code notes p c stuck = Unit {0}
 abbrev pub AreShort : Code → ℕ → Type 0
 AreShort code most = (n : ℕ) (b : CodeBlock) → slice_get code.blocks n ≡ Some b → length b.instrs ≤ most
 
--- every step of certified code uses up what it costs, at all prices that bear it, in every state in which handles are numbers
+-- every step of certified code uses up what it costs, at all prices that bear it,
+-- in every state in which handles are numbers
 abbrev pub EveryNumberedStepPays : Type 0
 EveryNumberedStepPays =
-    (s : Setting ℕ) (notes : ℕ → ℕ → Note) → AllCertified s.code notes → (p : Prices) (most : ℕ) → Bears p most → AreShort s.code most
+    (s : Setting ℕ) (notes : ℕ → ℕ → Note) → AllCertified s.code notes → (p : Prices) (most : ℕ) → Bears p most
+    → AreShort s.code most
     → (c : State ℕ) → UsesUp s.code notes p c (step s c)
 
 -- so a leg ends: each instruction uses up 1 of what the revision costs
 abbrev pub LegsAreBounded : Type 0
 LegsAreBounded =
     (s : Setting ℕ) (notes : ℕ → ℕ → Note) → AllCertified s.code notes → (most : ℕ) → AreShort s.code most
-    → (c c' : State ℕ) → step s c ≡ goes c' → total s.code notes (leg_prices most) c' < total s.code notes (leg_prices most) c
+    → (c c' : State ℕ) → step s c ≡ goes c'
+    → total s.code notes (leg_prices most) c' < total s.code notes (leg_prices most) c

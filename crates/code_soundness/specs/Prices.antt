@@ -1,4 +1,5 @@
--- What a revision that runs code still costs: so much for each unit of fuel, and for each frame by its place. A place at a
+-- What a revision that runs code still costs: so much for each unit of fuel,
+-- and for each frame by its place. A place at a
 -- Charge costs least, since jumps back lead there; another has `other` more, and `paid` more where a Charge paid.
 --   Prices, Bears   prices, and when they bear the instructions of blocks of a length
 --   place, total    what a frame costs at a place, and a revision
@@ -46,7 +47,8 @@ place_price p _ paid = p.other + cond paid p.paid 0
 
 module _ (code : Code) (notes : ℕ → ℕ → Note) (p : Prices) where
   abbrev pub place : ℕ → ℕ → ℕ
-  place n at = p.left (block_length (slice_get code.blocks n)) at + place_price p (instr_in (slice_get code.blocks n) at) (notes n at).paid
+  place n at = p.left (block_length (slice_get code.blocks n)) at + place_price p
+      (instr_in (slice_get code.blocks n) at) (notes n at).paid
 
   abbrev pub below : {H : Type 0} → List (Frame H) → ℕ
   below [] = 0
@@ -56,7 +58,8 @@ module _ (code : Code) (notes : ℕ → ℕ → Note) (p : Prices) where
   total c = p.fuel * c.fuel + place c.block c.at + below c.below
 
 abbrev pub leg_prices : ℕ → Prices
-leg_prices most = record { fuel = 3 * suc most; paid = 2 * suc most; other = suc most; left = λ len at. len - at; each = 1 }
+leg_prices most = record
+    { fuel = 3 * suc most; paid = 2 * suc most; other = suc most; left = λ len at. len - at; each = 1 }
 
 abbrev pub entry_prices : Prices
 entry_prices = record { fuel = 3; paid = 3; other = 0; left = λ len at. 0; each = 0 }

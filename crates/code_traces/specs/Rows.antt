@@ -80,7 +80,8 @@ pub record HasTrace
     (lines : List (List ℕ)) : Type 0 where
   pub verified : IsVerified (run_of code)
   pub world : Entries (Local ℕ)
-  pub replays : replay (numbered (run_of code)) (begin (numbered (run_of code)) (start_in (run_of code) n main 100)) schedule
+  pub replays : replay (numbered (run_of code)) (begin (numbered (run_of code)) (start_in (run_of code) n main 100))
+      schedule
       ≡ Some (Listing world)
   pub trace : IsTheOnly (IsTraceOf (run_of code) (Listing world)) parts
   pub text : lines_of parts ≡ lines

@@ -8,7 +8,8 @@ use Rattle.code_verifier.specs.declared.stack.Effect.{Effect}
 use Rattle.code_verifier.specs.ShapesByNumber.{Extends, shape_at}
 
 -- of an instruction at the shape of this number, where these are the shapes before and behind
-pub record IsEffect (code : Code) (b : CodeBlock) (old : List Shape) (id : ℕ) (x : Instr) (new : List Shape) (effect : Effect) : Type 0 where
+pub record IsEffect (code : Code) (b : CodeBlock) (old : List Shape) (id : ℕ) (x : Instr) (new : List Shape)
+    (effect : Effect) : Type 0 where
   pub extends : Extends old new
   pub words : effect.words ≡ length (shape_at old id)
   pub wanted : effect.wanted ≡ length (takes code b (shape_at old id) x)

@@ -19,7 +19,8 @@ met shapes None None = Some (record { shape = 0; paid = false })
 met shapes None (Some n) = Some n
 met shapes (Some m) None = Some m
 met shapes (Some m) (Some n) =
-    if same_shape (shape_at shapes m.shape) (shape_at shapes n.shape) then Some (record { shape = m.shape; paid = m.paid && n.paid }) else None
+    if same_shape (shape_at shapes m.shape) (shape_at shapes n.shape)
+    then Some (record { shape = m.shape; paid = m.paid && n.paid }) else None
 
 abbrev pub other_at : List Shape → ℕ → Option (Option Mark) → Bool
 other_at shapes after (Some (Some m)) = not (same_shape (shape_at shapes after) (shape_at shapes m.shape))
@@ -41,7 +42,8 @@ kept (Some o) = o
 
 abbrev pub leap : List (Option Mark) → ℕ → Mark → Option ℕ → List (Option Mark)
 leap ahead at n None = ahead
-leap ahead at n (Some to) = if nat_lt at to then slice_set ahead to (Some (joined_mark (kept (slice_get ahead to)) n)) else ahead
+leap ahead at n (Some to) =
+    if nat_lt at to then slice_set ahead to (Some (joined_mark (kept (slice_get ahead to)) n)) else ahead
 
 -- ---- what marks stand for
 
@@ -57,10 +59,12 @@ Marks shapes (Some m) None = ⊥
 Marks shapes (Some m) (Some n) = IsMark shapes m n
 
 -- behind these instructions
-pub record Stands (code : Code) (b : CodeBlock) (done : List Passed) (shapes : List Shape) (ahead : List (Option Mark)) (last : Option Mark) : Type 0 where
+pub record Stands (code : Code) (b : CodeBlock) (done : List Passed) (shapes : List Shape) (ahead : List (Option Mark))
+    (last : Option Mark) : Type 0 where
   pub some : 0 < length shapes
   pub empty : shape_at shapes 0 ≡ []
   pub range : AllInRange shapes ahead
   pub long : length ahead ≡ length b.instrs
   pub fallen : Marks shapes last (pass.fallen code b done)
-  pub marks : (to : ℕ) (o : Option Mark) → length done ≤ to → slice_get ahead to ≡ Some o → Marks shapes o (jumped code b to done)
+  pub marks : (to : ℕ) (o : Option Mark) → length done ≤ to → slice_get ahead to ≡ Some o
+      → Marks shapes o (jumped code b to done)

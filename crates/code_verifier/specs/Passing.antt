@@ -35,7 +35,8 @@ pub record IsFirst (count : ℕ) (k : Known) : Type 0 where
   pub count' : k.spent.count ≡ 0
 
 abbrev pub spent_cost : CodeBlock → Spent → Cost
-spent_cost b s = if is_value_class b.class then record { need = length b.locals + s.depth + s.need; count = s.count } else no_cost
+spent_cost b s = if is_value_class b.class then record { need = length b.locals + s.depth + s.need; count = s.count }
+    else no_cost
 
 -- of the block
 abbrev pub verdict_of : Scope → Result Cost (ℕ × Rule)
@@ -57,7 +58,9 @@ pub record Arrived (s : Scope) (at : ℕ) (x : Instr) (k : Known) (m : Mark) : T
 
 -- the first rule that the instruction breaks; where it breaks none, what is known at the next place
 abbrev pub IsStep : Scope → ℕ → Instr → Known → Option Rule → Type 0
-IsStep s at x k (Some r) = broken s.code.now s.costs.now s.number s.block.now (before s.code.now s.block.now at) x (arrival s.code.now s.block.now (before s.code.now s.block.now at)) ≡ Some r
+IsStep s at x k (Some r) = broken s.code.now s.costs.now s.number s.block.now (before s.code.now s.block.now at) x
+    (arrival s.code.now s.block.now (before s.code.now s.block.now at)) ≡ Some r
 IsStep s at x k None =
-    (broken s.code.now s.costs.now s.number s.block.now (before s.code.now s.block.now at) x (arrival s.code.now s.block.now (before s.code.now s.block.now at)) ≡ None)
+    (broken s.code.now s.costs.now s.number s.block.now (before s.code.now s.block.now at) x
+    (arrival s.code.now s.block.now (before s.code.now s.block.now at)) ≡ None)
     × IsReady s (suc at) k

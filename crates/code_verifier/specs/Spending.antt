@@ -11,7 +11,8 @@ spend s depth cost = record { depth = max depth s.depth; need = max cost.need s.
 
 abbrev pub is_over : CodeBlock → Spent → ℕ → Bool
 is_over b s depth =
-    if is_value_class b.class then nat_lt most_need (length b.locals + s.depth + s.need) || nat_lt most_count s.count else nat_lt most_words depth
+    if is_value_class b.class then nat_lt most_need (length b.locals + s.depth + s.need) || nat_lt most_count s.count
+    else nat_lt most_words depth
 
 abbrev pub IsCheap : Cost → Type 0
 IsCheap c = (c.need ≤ most_need) × (c.count ≤ most_count)

@@ -38,13 +38,16 @@ pub record IsTrie (ns : List Node) : Type 0 where
   pub bottom : (n : Node) → slice_get ns 0 ≡ Some n → n.below ≡ 0
   pub each : (id : ℕ) (n : Node) → slice_get ns id ≡ Some n → 0 < id → IsNode ns id n
   -- what is found has one kind more
-  pub more : (kind : ValueKind) (id : ℕ) → above_at kind ns id ≢ 0 → (above_at kind ns id < length ns) × (shape_at (shapes_of ns) (above_at kind ns id) ≡ kind ∷ shape_at (shapes_of ns) id)
-  pub depth : (id : ℕ) (n : Node) → slice_get ns id ≡ Some n → (n.depth ≡ length (shape_at (shapes_of ns) id)) × (n.depth ≤ id)
+  pub more : (kind : ValueKind) (id : ℕ) → above_at kind ns id ≢ 0 → (above_at kind ns id < length ns)
+      × (shape_at (shapes_of ns) (above_at kind ns id) ≡ kind ∷ shape_at (shapes_of ns) id)
+  pub depth : (id : ℕ) (n : Node) → slice_get ns id ≡ Some n → (n.depth ≡ length (shape_at (shapes_of ns) id))
+      × (n.depth ≤ id)
 
 -- ---- changes of a node
 
 abbrev pub new_node : ValueKind → ℕ → ℕ → Node
-new_node kind below depth = record { kind = kind; below = below; depth = depth; above_int = 0; above_bool = 0; above_rev = 0 }
+new_node kind below depth =
+    record { kind = kind; below = below; depth = depth; above_int = 0; above_bool = 0; above_rev = 0 }
 
 abbrev pub with_above : ValueKind → ℕ → Node → Node
 with_above k.Int to n = record n { above_int = to }

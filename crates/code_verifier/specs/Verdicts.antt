@@ -28,7 +28,8 @@ IsPlace (Some f) = (f.block < 2 ^ 32) × (f.at < 2 ^ 32)
 
 -- each block is as small as its counts allow
 abbrev pub AllSmall : List CodeBlock → Type 0
-AllSmall blocks = (n : ℕ) (b : CodeBlock) → slice_get blocks n ≡ Some b → (length b.locals ≤ 64) × (length b.instrs < 2 ^ 32)
+AllSmall blocks = (n : ℕ) (b : CodeBlock) → slice_get blocks n ≡ Some b → (length b.locals ≤ 64)
+    × (length b.instrs < 2 ^ 32)
 
 -- the pass over tables and instructions finds no fault
 abbrev pub KeepsRules : Code → Type 0

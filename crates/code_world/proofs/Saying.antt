@@ -28,7 +28,8 @@ stands_text g a c at = at.stands.stands.text
 pub first_slot : (xs ys : List WorldSlot) (f s : WorldSlot) → ys ≡ xs → 0 < length ys → f ≡ get_or ys 0 f → f ≡ s
     → at_number xs 0 ≡ Some s
 first_slot xs ys f s e less get is =
-    ap (λ (z : List WorldSlot). at_number z 0) (sym e) ∙ at_there ys 0 f less ∙ ap (λ (z : WorldSlot). Some z) (sym get ∙ is)
+    ap (λ (z : List WorldSlot). at_number z 0) (sym e) ∙ at_there ys 0 f less
+    ∙ ap (λ (z : WorldSlot). Some z) (sym get ∙ is)
 
 module _ (g : CodeRun) (ss : List WorldSlot) (w : Entries (Local ℕ)) (h : AreSlots g ss w) (text : List ℕ) where
   pub running_said : (r : WholeRunner) → at_number ss 0 ≡ Some (slot.Running r)
@@ -53,4 +54,5 @@ module _ (g : CodeRun) (v : rust.World) (w : World (Local ℕ)) (is : IsWorld g 
 -- at the start
 pub first_silent : (g : CodeRun) (fuel : ℕ) (r : WholeRunner) → IsFirst g fuel r → (t : Table) → IsAlone r t
     → main_text (world.Live t) ≡ []
-first_silent g fuel r f t a = ap (λ (ss : List WorldSlot). slot_text (at_number ss 0)) a.slots ∙ sym (runs_text g r _ f.runs)
+first_silent g fuel r f t a =
+    ap (λ (ss : List WorldSlot). slot_text (at_number ss 0)) a.slots ∙ sym (runs_text g r _ f.runs)

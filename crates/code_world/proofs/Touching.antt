@@ -33,7 +33,8 @@ pub but_stays : (t t' : Table) (n : ℕ) → IsSameBut t n t' → OthersStay t.s
 but_stays t t' n e m s apart there = inl (e.0 m apart ∙ there)
 
 -- the revision is taken out and put back
-pub put_stays : (ss ss' : List WorldSlot) (n : ℕ) (a b : WorldSlot) → ss' ≡ put_number (put_number ss n a) n b → (m : ℕ) → m ≢ n
+pub put_stays : (ss ss' : List WorldSlot) (n : ℕ) (a b : WorldSlot) → ss' ≡ put_number (put_number ss n a) n b → (m : ℕ)
+    → m ≢ n
     → at_number ss' m ≡ at_number ss m
 put_stays ss ss' n a b e m apart =
     ap (λ z. at_number z m) e ∙ put_other (put_number ss n a) n m b apart ∙ put_other ss n m a apart
@@ -42,14 +43,16 @@ pub others_put : (ss ss' : List WorldSlot) (n : ℕ) (a b : WorldSlot) → ss' �
     → OthersStay ss n ss'
 others_put ss ss' n a b e m s apart there = inl (put_stays ss ss' n a b e m apart ∙ there)
 
-pub fork_stays : (ss ss' : List WorldSlot) (n : ℕ) (a b kid : WorldSlot) → ss' ≡ put_number (put_number ss n a) n b ++ kid ∷ []
+pub fork_stays : (ss ss' : List WorldSlot) (n : ℕ) (a b kid : WorldSlot)
+    → ss' ≡ put_number (put_number ss n a) n b ++ kid ∷ []
     → OthersStay ss n ss'
 fork_stays ss ss' n a b kid e m s apart there =
     inl (ap (λ z. at_number z m) e
     ∙ at_front (put_number (put_number ss n a) n b) (kid ∷ []) m s
     (put_other (put_number ss n a) n m b apart ∙ put_other ss n m a apart ∙ there))
 
-pub settle_stays : (ss ss' : List WorldSlot) (n on : ℕ) (v : EndValue) (a b : WorldSlot) → at_number ss on ≡ Some (slot.Ended v)
+pub settle_stays : (ss ss' : List WorldSlot) (n on : ℕ) (v : EndValue) (a b : WorldSlot)
+    → at_number ss on ≡ Some (slot.Ended v)
     → ss' ≡ put_number (put_number (put_number ss on (slot.Joined v)) n a) n b → OthersStay ss n ss'
 settle_stays ss ss' n on v a b end e m s apart there = by (decide m on)
   where
@@ -71,7 +74,8 @@ then_stays a b c n first second m s apart there = second m s apart (first m apar
 -- ---- joins
 
 -- whatever comes of it
-pub settle_touches : (t t' : Table) (n on : ℕ) (s : WorldSlot) → OthersStay t.slots.items n t'.slots.items → (a : LegAnswer)
+pub settle_touches : (t t' : Table) (n on : ℕ) (s : WorldSlot) → OthersStay t.slots.items n t'.slots.items
+    → (a : LegAnswer)
     → a ≡ behind s on → TouchesJoining t n a t'
 settle_touches t t' n on s h a e = subst (λ z. TouchesJoining t n z t') (sym e) (by s)
   where

@@ -1,7 +1,8 @@
 -- With what a revision of a world begins that has made no instruction.
 --   running_in  the running revision in a place of a table, if there is one
 --   IsBegun     what is said of one that begins so
---   FreshIn     of the revision of this number, which is a running one; and nothing where it is not fresh, or stands at a
+--   FreshIn     of the revision of this number, which is a running one;
+--               and nothing where it is not fresh, or stands at a
 --               join, to which the instructions of its leg have led it
 --   FreshAt     of a world; nothing in Twice
 use Rattle.std.specs.Prelude.{ℕ, ◌≡◌, Option, Some, None}

@@ -1,5 +1,6 @@
 -- Between the instructions of a leg and what comes of them.
---   IsBetween     a table out of which a running revision was taken, and what the instructions of its leg came to, where
+--   IsBetween     a table out of which a running revision was taken,
+--                 and what the instructions of its leg came to, where
 --                 a child gets this number
 --   HasReadOf     the notes have what a leg of the revision of this number reads more, if it is a running one
 use Rattle.std.specs.Prelude.{ℕ, ◌≡◌, length, Option, Some}
@@ -21,7 +22,8 @@ use Rattle.code_world.specs.LegOutcomes.{HasCome}
 use Rattle.code_world.specs.Slots.{WholeRunner, Runs}
 use Rattle.code_world.specs.Turns.{IsGood}
 
-pub record IsBetween (g : CodeRun) (t : Table) (w : Entries (Local ℕ)) (n : ℕ) (t' : Table) (child : ℕ) (k : Came) : Type 0 where
+pub record IsBetween (g : CodeRun) (t : Table) (w : Entries (Local ℕ)) (n : ℕ) (t' : Table) (child : ℕ) (k : Came)
+    : Type 0 where
   pub good : IsGood g t w
   pub runner : WholeRunner
   pub there : at_number t.slots.items n ≡ Some (slot.Running runner)
@@ -34,7 +36,8 @@ pub record IsBetween (g : CodeRun) (t : Table) (w : Entries (Local ℕ)) (n : �
 
 abbrev pub HasRead : CodeRun → Entries (Local ℕ) → ℕ → (old new : ReadMarks) → Type 0
 HasRead g w n old new =
-    (p : Path) (c : State ℕ) → at_number w n ≡ Some (p, Plain (at_work c)) → HasMarked old new (marks_of (leg_reads g c))
+    (p : Path) (c : State ℕ) → at_number w n ≡ Some (p, Plain (at_work c))
+    → HasMarked old new (marks_of (leg_reads g c))
 
 -- of one that stands at its join, has ended or is none of the world nothing is noted
 abbrev pub HasReadOf : CodeRun → Option WorldSlot → Entries (Local ℕ) → ℕ → (old new : ReadMarks) → Type 0

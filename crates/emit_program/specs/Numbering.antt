@@ -17,10 +17,14 @@ abbrev pub passed_over : Numbered → Numbered
 passed_over t = record { table = t.table; next = t.next + 1 }
 
 abbrev pub with_declaration : NameNumbers → Declaration → NameNumbers
-with_declaration n (fun w ps r body) = record { vars = n.vars; funs = entered n.funs w.text; procs = n.procs; gives = n.gives }
-with_declaration n (merge w m j r body) = record { vars = n.vars; funs = passed_over n.funs; procs = n.procs; gives = n.gives }
-with_declaration n (shared x) = record { vars = entered n.vars x.name.text; funs = n.funs; procs = n.procs; gives = n.gives }
-with_declaration n (proc w ps r body) = record { vars = n.vars; funs = n.funs; procs = entered n.procs w.text; gives = added n.gives w.text (is_some r) }
+with_declaration n (fun w ps r body) =
+    record { vars = n.vars; funs = entered n.funs w.text; procs = n.procs; gives = n.gives }
+with_declaration n (merge w m j r body) =
+    record { vars = n.vars; funs = passed_over n.funs; procs = n.procs; gives = n.gives }
+with_declaration n (shared x) =
+    record { vars = entered n.vars x.name.text; funs = n.funs; procs = n.procs; gives = n.gives }
+with_declaration n (proc w ps r body) = record
+    { vars = n.vars; funs = n.funs; procs = entered n.procs w.text; gives = added n.gives w.text (is_some r) }
 
 abbrev pub with_declarations : NameNumbers → List Declaration → NameNumbers
 with_declarations n [] = n

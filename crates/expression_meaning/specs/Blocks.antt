@@ -23,7 +23,8 @@ use Rattle.expression_meaning.specs.Applying.{AllApply}
 use Rattle.expression_meaning.specs.Agrees.{word, coded, IsOfKind, ArgsAre, FunReads}
 
 -- a body that keeps the rules, with these parameters, where the funs that it applies have these values
-pub record IsBody (code : Code) (before : List (Fun Path)) (n : Numbers) (c : Names) (fs : Funs) (ps : List Parameter) (r : ValueKind) (body : Expression) : Type 0 where
+pub record IsBody (code : Code) (before : List (Fun Path)) (n : Numbers) (c : Names) (fs : Funs) (ps : List Parameter)
+    (r : ValueKind) (body : Expression) : Type 0 where
   pub closed : (name : Name) → c.shared name ≡ None
   pub inside : c.inside ≡ true
   pub params : ParamsNew c [] ps
@@ -35,17 +36,22 @@ pub record IsBody (code : Code) (before : List (Fun Path)) (n : Numbers) (c : Na
 abbrev pub BlockGives : Code → List (Fun Path) → ℕ → CodeBlock → Funs → List Parameter → ValueKind → Expression → Type 0
 BlockGives code before at b fs ps r body =
     (xs : List Value) → ArgsAre ps xs
-    → (value_of code before at b (map word xs) ≡ Some (coded (value_by fs (inside (names_of ps) xs) body))) × IsOfKind r (value_by fs (inside (names_of ps) xs) body)
+    → (value_of code before at b (map word xs) ≡ Some (coded (value_by fs (inside (names_of ps) xs) body)))
+    × IsOfKind r (value_by fs (inside (names_of ps) xs) body)
 
 abbrev pub FunBlocksGive : Type 0
 FunBlocksGive =
-    (code : Code) (before : List (Fun Path)) (at : ℕ) (n : Numbers) (c : Names) (fs : Funs) (ps : List Parameter) (r : ValueKind) (body : Expression) → IsBody code before n c fs ps r body
-    → slice_get code.blocks at ≡ Some (fun_block n ps r body) → BlockGives code before at (fun_block n ps r body) fs ps r body
+    (code : Code) (before : List (Fun Path)) (at : ℕ) (n : Numbers) (c : Names) (fs : Funs) (ps : List Parameter)
+    (r : ValueKind) (body : Expression) → IsBody code before n c fs ps r body
+    → slice_get code.blocks at ≡ Some (fun_block n ps r body)
+    → BlockGives code before at (fun_block n ps r body) fs ps r body
 
 abbrev pub merge_params : PlacedName → PlacedName → PlacedName → List Parameter
 merge_params m j r = int_param m ∷ int_param j ∷ int_param r ∷ []
 
 abbrev pub MergeBlocksGive : Type 0
 MergeBlocksGive =
-    (code : Code) (before : List (Fun Path)) (at : ℕ) (n : Numbers) (c : Names) (fs : Funs) (m j r : PlacedName) (body : Expression) → IsBody code before n c fs (merge_params m j r) k.Int body
-    → slice_get code.blocks at ≡ Some (merge_block n m j r body) → BlockGives code before at (merge_block n m j r body) fs (merge_params m j r) k.Int body
+    (code : Code) (before : List (Fun Path)) (at : ℕ) (n : Numbers) (c : Names) (fs : Funs) (m j r : PlacedName)
+    (body : Expression) → IsBody code before n c fs (merge_params m j r) k.Int body
+    → slice_get code.blocks at ≡ Some (merge_block n m j r body)
+    → BlockGives code before at (merge_block n m j r body) fs (merge_params m j r) k.Int body

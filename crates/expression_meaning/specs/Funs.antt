@@ -18,11 +18,13 @@ use Rattle.expression_meaning.specs.Agrees.{coded, FunReads}
 
 abbrev pub ProgramFuns : Type 0
 ProgramFuns =
-    (p : ProgramTree) → IsAccepted p → (inputs : List ℤ) (share : ℕ) (name : Name) (f : Callee) → fun_named p.declarations name ≡ Some f
+    (p : ProgramTree) → IsAccepted p → (inputs : List ℤ) (share : ℕ) (name : Name) (f : Callee)
+    → fun_named p.declarations name ≡ Some f
     → FunReads (setting (code_of p) inputs share) ((numbers p).fun name) f (funs_of (funs_in p) name)
 
 -- for all three numbers
 abbrev pub ProgramMerges : Type 0
 ProgramMerges =
     (p : ProgramTree) → IsAccepted p → (k : ℕ) (d : MergeDef) → slice_get (merges_in p) k ≡ Some d → (x y z : ℤ)
-    → value_at (slice_get (values {H = Path} (code_of p)) (merge_number k p.declarations)) (int x ∷ int y ∷ int z ∷ []) ≡ Some (coded (merged d (v.Int x) (v.Int y) (v.Int z)))
+    → value_at (slice_get (values {H = Path} (code_of p)) (merge_number k p.declarations)) (int x ∷ int y ∷ int z ∷ [])
+    ≡ Some (coded (merged d (v.Int x) (v.Int y) (v.Int z)))

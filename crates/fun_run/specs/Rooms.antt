@@ -47,7 +47,8 @@ room_prop : (code : Code) (rooms : List ℕ) (n : ℕ) (b : CodeBlock) (room : �
 room_prop code rooms n b room =
     ×_prop (Coded-set (coded_option coded_ℕ) (slice_get rooms n) (Some room)) (is_room_prop code n b room)
 
-abbrev with_room : (code : Code) (rooms : List ℕ) (n : ℕ) (b : CodeBlock) (room : ℕ) → Room code rooms n b room → HasRoomFor code rooms n b
+abbrev with_room : (code : Code) (rooms : List ℕ) (n : ℕ) (b : CodeBlock) (room : ℕ) → Room code rooms n b room
+    → HasRoomFor code rooms n b
 with_room code rooms n b room r = record { room = room; is = r.0; enough = r.1 }
 
 abbrev room_or : Option ℕ → ℕ

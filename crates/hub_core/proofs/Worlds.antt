@@ -70,7 +70,8 @@ module _ {L R A E : Type 0} (d : HubMachine L R A E) (ends : E → L → Type 0)
   pub world_now : (u : View L) (t : Turn R A E) → InHand d ends u t → t.state ≡ All → HasCurrent u
       → HasWorld d ends (rests u)
   world_now u t h none current =
-      let start = some_start d ends u.start t.state u.log t.revisions.slots.items t.revisions.forkers.items h.holds.sound in
+      let start = some_start d ends u.start t.state u.log t.revisions.slots.items t.revisions.forkers.items
+      h.holds.sound in
       record {
         start = start.0;
         begun = start.1;

@@ -9,7 +9,8 @@
 --   LacksPass                           it has no pass of a revision
 --   HasCurrent v                        each pass has had no entry since, and seats have its revision
 --   HasWorld v                          what the hub kept when the seat gave its turn back
---   Owes v m k l                        the joiner k has taken in the end of m, is in this state, and neither is an entry yet
+--   Owes v m k l                        the joiner k has taken in the end of m, is in this state,
+--   and neither is an entry yet
 use Rattle.std.specs.Prelude.{◌≡◌, ◌≢◌, ℕ, ◌<◌, ◌≤◌, List, [], ◌∷◌, ◌++◌, Option, Some}
 use Rattle.atomic_table.specs.Seated.{TableId}
 use Rattle.atomic_table.specs.Table.{Me}

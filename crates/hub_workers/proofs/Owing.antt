@@ -137,7 +137,8 @@ module _ {L R A E : Type 0} (d : HubMachine L R A E) (ends : E → L → Type 0)
     );
   }
 
-  pub reached_owing : {H : Type 0} → (begins : H → L → Type 0) (group : H → List ℕ) (v : View L) (m k : ℕ) (l : L) (h : H)
+  pub reached_owing : {H : Type 0}
+      → (begins : H → L → Type 0) (group : H → List ℕ) (v : View L) (m k : ℕ) (l : L) (h : H)
       → IsOwing d ends v m k l → IsHandOf begins group v h → IsReached d (begins h) l
   reached_owing begins group v m k l h o of = record {
     start = o.reached.0;
@@ -172,7 +173,8 @@ module _ {L R A E : Type 0} (d : HubMachine L R A E) (ends : E → L → Type 0)
     ends_here v k l e s (inr by) = ends_leg d ends by_join {F = ℕ} (λ f n. l) (λ f. l) v k l e s by
 
   -- a leg by itself ends the joinee
-  pub leg_ends : (by_join : E → Bool) {F : Type 0} (forker : F → ℕ → L) (child : F → L) (v : View L) (k : ℕ) (l : L) (e : E)
+  pub leg_ends : (by_join : E → Bool) {F : Type 0} (forker : F → ℕ → L) (child : F → L) (v : View L) (k : ℕ) (l : L)
+      (e : E)
       → HasState d ends v k l → Comes d ends by_join forker child l (event.End e) → HasEnd d ends v k e
   leg_ends by_join forker child v k l e s comes = (
     s.0,

@@ -37,7 +37,8 @@ module _ {L R A E : Type 0} (d : HubMachine L R A E) where
   IsSettledOf group (settled.Trap e) = Unit {0}
 
 module _ {L R A E : Type 0} (d : HubMachine L R A E) (ends : E → L → Type 0) where
-  -- in the world of a schedule from such a start the one stands before its join, and the other is the end of the revision that it joins
+  -- in the world of a schedule from such a start the one stands before its join,
+  -- and the other is the end of the revision that it joins
   pub record HaveMet (Begins : L → Type 0) (a : A) (e : E) : Type 0 where
     pub start : L
     pub begins : Begins start

@@ -1,7 +1,8 @@
 -- What a scout does that has napped.
 --   rings_since   how often the bell rang between two counts, which begin anew behind 2^64 - 1
 --   most_rings    so often it may ring in a nap and the time that it ends late, once in three microseconds
---   look_of       by the mark before the nap and after it, whether both tell of enough, and whether the bell rang oftener
+--   look_of       by the mark before the nap and after it, whether both tell of enough,
+--                 and whether the bell rang oftener
 use Rattle.std.specs.Prelude.{ℕ, ◌+◌, ◌-◌, ◌/◌, ◌%◌, ◌^◌, min, Bool, true, false, not, ◌==◌, ◌||◌, cond}
 use Rattle.hub_workers.specs.declared.scout.Look.{Look}
 use Rattle.hub_workers.specs.declared.scout.Look.TheVariants.{Take, Again, Park}

@@ -25,7 +25,8 @@ module _ {H M S R A E C P : Type 0} (begins : H → S → Type 0) (group : H →
       × ((start : S) × ((began hub).start ≡ Some start) × begins hand start)
 
 module _ {M S R A E C P : Type 0} {g : Ghosts M S R A E C P} (d : HubMachine S R A E) (ends : E → S → Type 0) where
-  -- the run tells where it began and what its snapshots belong to. Its schedule is legal, or in Twice its last entry joined
+  -- the run tells where it began and what its snapshots belong to. Its schedule is legal,
+  -- or in Twice its last entry joined
   -- what was joined; where no halt was entered it is complete, and it has the ends of all revisions without the mark
   pub record IsRunFrom (start : S) (group : List ℕ) (run : HubRun M S R A E C P g) : Type 0 where
     pub start_is : run_start run ≡ Some start

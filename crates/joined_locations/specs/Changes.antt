@@ -1,6 +1,7 @@
 -- What a join writes, location by location.
 --
--- `changed` is a location after the join, `put` all of them; `composed` is the composition that changes or a fault give.
+-- `changed` is a location after the join, `put` all of them;
+-- `composed` is the composition that changes or a fault give.
 use Rattle.std.specs.declared.alloc.Global.{Global}
 use Rattle.std.specs.Prelude.{ℕ, List, [], ◌∷◌, ◌++◌, Option, Some, None, Result, Ok, Err, Vec}
 use Rattle.rev_num.specs.declared.value.Value.{Value}

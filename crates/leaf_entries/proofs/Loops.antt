@@ -178,7 +178,8 @@ take_every [] (suc n) few = refl
 take_every (x ∷ xs) zero few = absurd (omega (arith, few))
 take_every (x ∷ xs) (suc n) few = ap (λ l. x ∷ l) (take_every xs n (omega (arith, few)))
 
-pub over_one : (t : List Path) (base : List ℕ) (written : List KeptValue) (n : ℕ) (k : KeptValue) (out new : List Written)
+pub over_one : (t : List Path) (base : List ℕ) (written : List KeptValue) (n : ℕ) (k : KeptValue)
+    (out new : List Written)
     (w : Written)
     → n < length written → k ≡ get_or written n k
     → IsOver t base k w → new ≡ out ++ w ∷ [] → AreOver t base (take n written) out
@@ -191,6 +192,7 @@ over_one t base written n k out new w less is o pushed so_far =
     subst (AreOver t base (take (n + 1) written)) (sym pushed)
     (subst (λ z. AreOver t base z (out ++ w ∷ [])) split both)
 
-pub over_all : (t : List Path) (base : List ℕ) (written : List KeptValue) (n : ℕ) (out : List Written) → length written ≤ n
+pub over_all : (t : List Path) (base : List ℕ) (written : List KeptValue) (n : ℕ) (out : List Written)
+    → length written ≤ n
     → AreOver t base (take n written) out → AreOver t base written out
 over_all t base written n out few a = subst (λ z. AreOver t base z out) (take_every written n few) a

@@ -34,7 +34,8 @@ module _ (xs : List (Word Path)) (inputs : List ℤ) where
   each_all [] h = tt
   each_all (x ∷ rs) h = (h x (has_first x rs), each_all rs (λ r i. h r (has_later r x rs i)))
 
-pub here_same : (path : ℕ → Path) (d : Bool) (vars vars' : List CodeVar) (base base' : List ℕ) (read read' : List KeptValue)
+pub here_same : (path : ℕ → Path) (d : Bool) (vars vars' : List CodeVar) (base base' : List ℕ)
+    (read read' : List KeptValue)
     → vars ≡ vars' → base ≡ base' → read ≡ read'
     → (d ≡ true) ↔ AreHere path vars base read → (d ≡ true) ↔ AreHere path vars' base' read'
 here_same path d vars vars' base base' read read' v b r h =

@@ -30,9 +30,11 @@ use Rattle.leaf_entries.specs.Standing.{EndFits}
 use Rattle.leaf_entries.specs.Told.{IsBlank, IsTold}
 
 -- of a running revision that has listed nothing, in a world that a legal schedule reaches
-abbrev pub OfUnlisted : ((g : CodeRun) (number : ℕ) (main : IsMain g number) (fuel : ℕ) → Entries (Local ℕ) → Path → State ℕ → Type 0) → Type 0
+abbrev pub OfUnlisted : ((g : CodeRun) (number : ℕ) (main : IsMain g number) (fuel : ℕ) → Entries (Local ℕ) → Path
+    → State ℕ → Type 0) → Type 0
 OfUnlisted Law =
-    (g : CodeRun) → IsVerified g → (number : ℕ) (main : IsMain g number) (fuel : ℕ) (ns : List ℕ) (w : Entries (Local ℕ))
+    (g : CodeRun) → IsVerified g
+    → (number : ℕ) (main : IsMain g number) (fuel : ℕ) (ns : List ℕ) (w : Entries (Local ℕ))
     → Replays (numbered g) (begin (numbered g) (start_in g number main.body fuel)) ns (Listing w)
     → (n : ℕ) (r : Path) (c : State ℕ) → at_number w n ≡ Some (r, Plain (at_work c)) → c.listed ≡ []
     → Law g number main fuel w r c

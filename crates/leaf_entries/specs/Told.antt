@@ -37,7 +37,8 @@ of_values [] = []
 of_values (x ∷ xs) = of_word x.value ++ of_values xs
 
 -- the entry is that of a revision that began so
-pub record IsTold (g : CodeRun) (t : List Path) (f : Fresh Path) (noted : ReadMarks) (v : EndValue) (e : Known) : Type 0 where
+pub record IsTold (g : CodeRun) (t : List Path) (f : Fresh Path) (noted : ReadMarks) (v : EndValue) (e : Known) : Type
+    0 where
   pub own : IsValid e e.path f g.inputs
   pub noted_are : HasNoted noted (marks_of e.reads)
   pub end : IsEnd g (renamed_end (number_of t) e.end) v

@@ -44,7 +44,8 @@ pub none_marked : (x : ReadMarks) → HasMarked x x []
 none_marked x =
     record { locations_are = λ n. refl; inputs_are = λ n. refl; count_is = refl; size = refl; positions = refl }
 
-pub marked_more : (x y z : ReadMarks) (ms ns : List Mark) → HasMarked x y ms → HasMarked y z ns → HasMarked x z (ms ++ ns)
+pub marked_more : (x y z : ReadMarks) (ms ns : List Mark) → HasMarked x y ms → HasMarked y z ns
+    → HasMarked x z (ms ++ ns)
 marked_more x y z ms ns h k = record {
   locations_are = λ n.
       k.locations_are n ∙ ap (λ v. has_location ns n || v) (h.locations_are n)

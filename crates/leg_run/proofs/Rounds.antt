@@ -124,7 +124,8 @@ module _ (code : Code) (ok : IsAccepted code (notes_of code)) (inputs : List ℤ
                   small d stays;
               same = same_still c0 c g.next same g.same;
             };
-            noted = subst (λ rs. HasMarkedIfOn old after (marks_of rs)) (sym (reads_one_more t c0 c g.next steps e)) both;
+            noted = subst (λ rs. HasMarkedIfOn old after (marks_of rs)) (sym (reads_one_more t c0 c g.next steps e))
+                both;
           }
 
       trapped_noting : (e : Cause) → D (stop.Traps e)

@@ -1,6 +1,7 @@
 -- Whether what was read agrees, by the machine's notes and by the words of both snapshots.
 --   MarksAgree        two snapshots and inputs agree on what is noted
---   AgreesByMarks     where these have what was read, others have it exactly where they agree with these on what is noted
+--   AgreesByMarks     where these have what was read, others have it exactly where they agree with
+--                     these on what is noted
 use Rattle.std.specs.Prelude.{◌≡◌, ◌↔◌, ℕ, ℤ, true, List, length, slice_get}
 use Rattle.rev_code.specs.Words.{Word}
 pub use Rattle.code_machine_laws.specs.LegReads.{leg_reads}

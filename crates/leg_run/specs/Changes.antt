@@ -28,7 +28,8 @@ pub record Entered (b : CodeBlock) (n : ℕ) (called : CodeBlock) (room : ℕ) (
     fuel = run.registers.fuel;
     line = run.registers.line;
   }
-  pub below : run'.below.items ≡ run.below.items ++ record { block = run.registers.block; at = suc run.registers.at; base = run.registers.base } ∷ []
+  pub below : run'.below.items ≡ run.below.items ++
+      record { block = run.registers.block; at = suc run.registers.at; base = run.registers.base } ∷ []
   pub locals : take (length called.locals) (drop (low b run.registers) run'.words.items)
       ≡ take (length (params called)) (drop (low b run.registers) run.words.items)
       ++ replicate (length called.locals - length (params called)) 0
@@ -61,9 +62,11 @@ pub record Left (b : CodeBlock) (w : Waiting) (run run' : Run) : Type 0 where
 
 -- the line of a layout, whose values were on the stack
 pub record Printed (texts : List (List ℕ)) (items : List LayoutItem) (run run' : Run) : Type 0 where
-  pub registers : run'.registers ≡ record run.registers { at = run.registers.at + 1; top = run.registers.top - widths items }
+  pub registers : run'.registers ≡
+      record run.registers { at = run.registers.at + 1; top = run.registers.top - widths items }
   pub words : run'.words.items ≡ run.words.items
   pub below : run'.below.items ≡ run.below.items
-  pub text : run'.text.items ≡ (run.text.items ++ bytes_from [] texts items run.words.items (run.registers.top - widths items)) ++ 10 ∷ []
+  pub text : run'.text.items
+      ≡ (run.text.items ++ bytes_from [] texts items run.words.items (run.registers.top - widths items)) ++ 10 ∷ []
   pub forks : run'.forks ≡ run.forks
   pub meetings : run'.meetings.items ≡ run.meetings.items

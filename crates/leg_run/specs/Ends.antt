@@ -38,14 +38,17 @@ with_frames c d = record c { block = d.block; at = d.at; locals = d.locals; stac
 
 -- ---- the end of a leg
 
--- the event, at the state for which the revision stands behind it; at the end and at a trap its frames no longer matter,
+-- the event, at the state for which the revision stands behind it;
+-- at the end and at a trap its frames no longer matter,
 -- and the words that it has written and their roots are those of the state
-abbrev pub LegEnds : Code → List ℤ → (share : ℕ) → State ℕ → LegEnd → Run → (seen : ℕ → ℕ) → (root : ℕ → Option ℕ) → Type 0
+abbrev pub LegEnds : Code → List ℤ → (share : ℕ) → State ℕ → LegEnd → Run → (seen : ℕ → ℕ) → (root : ℕ → Option ℕ)
+    → Type 0
 LegEnds code inputs share c0 (end.Fork n) run seen root =
     (args : List (Word ℕ)) × IsLeg (setting code inputs share) c0 (forks (state_of code run seen root) n args)
     × IsStanding code inputs share run seen root
 LegEnds code inputs share c0 (end.Join try on) run seen root =
-    IsLeg (setting code inputs share) c0 (joins (state_of code run seen root) try on) × IsStanding code inputs share run seen root
+    IsLeg (setting code inputs share) c0 (joins (state_of code run seen root) try on)
+    × IsStanding code inputs share run seen root
 LegEnds code inputs share c0 end.End run seen root =
     (w : Option (Word ℕ)) × (c : State ℕ) × IsLeg (setting code inputs share) c0 (ends c w)
     × (c ≡ with_frames (state_of code run seen root) c) × Leaves code run seen root c
@@ -66,20 +69,23 @@ EventAt s last (end.Trap e) c = step s last ≡ traps c e
 abbrev pub EndsAt : Setting ℕ → State ℕ → LegEnd → Type 0
 EndsAt s c e = EventAt s c e c
 
-abbrev pub StandsAt : Code → List ℤ → (share : ℕ) → State ℕ → LegEnd → Run → (seen : ℕ → ℕ) → (root : ℕ → Option ℕ) → Type 0
+abbrev pub StandsAt : Code → List ℤ → (share : ℕ) → State ℕ → LegEnd → Run → (seen : ℕ → ℕ) → (root : ℕ → Option ℕ)
+    → Type 0
 StandsAt code inputs share c (end.Fork n) run seen root = Stands code inputs share run seen root c
 StandsAt code inputs share c (end.Join try on) run seen root = Stands code inputs share run seen root c
 StandsAt code inputs share c end.End run seen root = Leaves code run seen root c
 StandsAt code inputs share c (end.Trap e) run seen root = Leaves code run seen root c
 
 -- it goes on in a state for which the revision stands now
-pub record GoesOn (code : Code) (inputs : List ℤ) (share : ℕ) (c : State ℕ) (run : Run) (seen : ℕ → ℕ) (root : ℕ → Option ℕ)
+pub record GoesOn (code : Code) (inputs : List ℤ) (share : ℕ) (c : State ℕ) (run : Run) (seen : ℕ → ℕ)
+    (root : ℕ → Option ℕ)
     : Type 0 where
   pub next : State ℕ
   pub goes : step (setting code inputs share) c ≡ goes next
   pub stands : Stands code inputs share run seen root next
 
-abbrev pub TurnsTo : Code → List ℤ → (share : ℕ) → State ℕ → BlockExit → Run → (seen : ℕ → ℕ) → (root : ℕ → Option ℕ) → Type 0
+abbrev pub TurnsTo : Code → List ℤ → (share : ℕ) → State ℕ → BlockExit → Run → (seen : ℕ → ℕ) → (root : ℕ → Option ℕ)
+    → Type 0
 TurnsTo code inputs share c turn.Goes run seen root = GoesOn code inputs share c run seen root
 TurnsTo code inputs share c (turn.Ends e) run seen root =
     EndsAt (setting code inputs share) c e × StandsAt code inputs share c e run seen root

@@ -14,7 +14,8 @@ use Rattle.block_run.specs.declared.notes.Notes.{Notes}
 use Rattle.leg_run.specs.Marks.{marks_of}
 use Rattle.block_run.specs.WhereOn.{HasMarkedIfOn}
 
-pub record AheadNoting (code : Code) (inputs : List ℤ) (m : Mode) (b : CodeBlock) (c : State ℕ) (ws : List ℕ) (r : Registers)
+pub record AheadNoting (code : Code) (inputs : List ℤ) (m : Mode) (b : CodeBlock) (c : State ℕ) (ws : List ℕ)
+    (r : Registers)
     (seen : ℕ → ℕ) (root : ℕ → Option ℕ) (old new : Notes) : Type 0 where
   pub ahead : Ahead code inputs m b c ws r seen root
   pub noted : HasMarkedIfOn old new (marks_of (reads_of ahead.steps))

@@ -40,7 +40,8 @@ Unlisted n (Listing u) r x = (at_number u n ≡ Some (r, x)) × ((local_of x).st
 
 abbrev pub LeavesAreFound : Type 0
 LeavesAreFound =
-    OfLegs (λ g number main fuel w n u. (r : Path) (x : Entry (Local ℕ)) → Unlisted n u r x → LeafLeg g w n r (local_of x))
+    OfLegs (λ g number main fuel w n u. (r : Path) (x : Entry (Local ℕ)) → Unlisted n u r x
+    → LeafLeg g w n r (local_of x))
 
 abbrev pub AdoptedIsLeaf : Type 0
 AdoptedIsLeaf =

@@ -1,8 +1,10 @@
 -- What is kept of a world by number, leg by leg, where a run is recorded or is repeated by entries of another.
 --   LeafLeg            the revision of this number has listed no fork and no join, and its leg ends it so
 --   IsOverAt           a revision of this path has ended, with or without the mark
---   RecordedSoFar      these are entries of the run, of revisions that have ended, and each that has listed nothing has one
---   CountedSoFar       these are revisions that have ended and have a valid entry, and each other one that has ended and has
+--   RecordedSoFar      these are entries of the run, of revisions that have ended,
+--                      and each that has listed nothing has one
+--   CountedSoFar       these are revisions that have ended and have a valid entry,
+--                      and each other one that has ended and has
 --                      listed nothing has none in the state with which it began
 --   IsRecordedSoFar, IsCountedSoFar
 --                      of a world; of one in which a revision was joined twice nothing is said

@@ -51,7 +51,8 @@ later_follow ws at first n i follow room k w low is =
 pub fewer_follow : (ws : List Written) (first n m : ℕ) → Follow ws first n → m ≤ n → Follow ws first m
 fewer_follow ws first n m follow few k w low is = follow k w (omega (arith, few, low)) is
 
-pub row_values : (d e : Expression) (m : Merges ℕ) (first n few : ℕ) → equal d e ≡ true → AreValues e m first n → few ≤ n
+pub row_values : (d e : Expression) (m : Merges ℕ) (first n few : ℕ) → equal d e ≡ true → AreValues e m first n
+    → few ≤ n
     → AreValues d m first few
 row_values d e m first n few same values less k low u v w =
     values k (omega (arith, less, low)) u v w ∙ ap (λ x. merged x u v w) (sym (equal_is d e same))

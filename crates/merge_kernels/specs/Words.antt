@@ -26,7 +26,8 @@ merged_lanes e mains joins roots =
     option_map (map word_of)
     (lanes_answer (answer_of e) (map int_of mains) (map int_of joins) (map int_of roots))
 
-abbrev pub merged_or : Option Expression → (other : ℕ → ℕ → ℕ → Result ℕ NumFault) → (main join root : ℕ) → Result ℕ NumFault
+abbrev pub merged_or : Option Expression → (other : ℕ → ℕ → ℕ → Result ℕ NumFault) → (main join root : ℕ)
+    → Result ℕ NumFault
 merged_or (Some e) other = merged e
 merged_or None other = other
 

@@ -8,7 +8,8 @@ Onward Says (Ok x) a = Says x a
 Onward Says (Err f) a = a ≡ Err f
 
 -- one stage, and the next with its value
-abbrev pub Then : {X Y : Type 0} → (Result X Refusal → Type 0) → (X → Result Y Refusal → Type 0) → Result Y Refusal → Type 0
+abbrev pub Then : {X Y : Type 0} → (Result X Refusal → Type 0) → (X → Result Y Refusal → Type 0) → Result Y Refusal
+    → Type 0
 Then {X = X} Stage Says a = (found : Result X Refusal) × Stage found × Onward Says found a
 
 -- this fault comes first, and this is how it is reported

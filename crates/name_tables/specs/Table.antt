@@ -46,7 +46,8 @@ most_short = 7
 
 -- by their numbers the map finds what the table has at short names
 pub record IsShortIndex {V : Type 0} (short : BTreeMap ℕ V) (t : Table V) : Type 0 where
-  pub finds : (name : Name) → AreBytes name → length name ≤ most_short → get_by (nat_cmp (number name)) short ≡ find name t
+  pub finds : (name : Name) → AreBytes name → length name ≤ most_short
+      → get_by (nat_cmp (number name)) short ≡ find name t
 
 -- by their bytes the map finds what the table has at the others
 pub record IsLongIndex {V : Type 0} (long : BTreeMap (Vec ℕ Global) V) (t : Table V) : Type 0 where

@@ -27,11 +27,13 @@ use Rattle.program_texts.specs.Written.{IsWritten}
 abbrev pub TracesHaveForm : Type 0
 TracesHaveForm =
     (s : Setting) (fuel : ℕ) → IsAccepted s.program → IsWritten s.program → AreInputs s.inputs → fuel ≤ most_fuel
-    → (rs : List Path) (g : Global Local) (t : Trace) → Complete (calculus s) (start_of s fuel) rs g → IsTrace s g t.parts
+    → (rs : List Path) (g : Global Local) (t : Trace) → Complete (calculus s) (start_of s fuel) rs g
+    → IsTrace s g t.parts
     → form.IsTrace t
 
 -- a program of a text that is not too long is written so
 abbrev pub TextsAreWritten : Type 0
 TextsAreWritten =
-    (text : List ℕ) (ts : List Token) (p : ProgramTree) → IsTokens text ts → length text ≤ most_bytes → IsProgram text ts p
+    (text : List ℕ) (ts : List Token) (p : ProgramTree) → IsTokens text ts → length text ≤ most_bytes
+    → IsProgram text ts p
     → IsWritten p

@@ -1,6 +1,7 @@
 -- A revision's own run, with the children that it forks.
 --
--- `Goes` is an own run up to a state; `Stops` is what comes of it where nothing more is done; `IsUnderWay` says that the
+-- `Goes` is an own run up to a state; `Stops` is what comes of it where nothing more is done;
+-- `IsUnderWay` says that the
 -- run is that of a revision that begins.
 use Rattle.std.specs.Prelude.{◌≡◌, ◌+◌, ◌<◌, ◌^◌, ℕ, List, [], ◌∷◌, ◌++◌, Option, Some, None}
 use Rattle.rev_num.specs.Path.{Path, child}
@@ -38,8 +39,10 @@ module _ (s : Setting) (fuel : ℕ) (parts : List Part) where
   pub data Goes (r : Path) (a : Local) : Local → List LocalState → Type 0 where
     at_first : Goes r a a []
     moved : (l l' : Local) (ks : List LocalState) → Goes r a l ks → next s r l ≡ Moves l' → Goes r a l' ks
-    forked : (l l' : Local) (c : LocalState) (ks : List LocalState) → Goes r a l ks → next s r l ≡ Forks l' c.local → c.path ≡ child r l.forks → Goes r a l' (ks ++ c ∷ [])
-    joined : (l l' : Local) (q : Path) (ks : List LocalState) → Goes r a l ks → next s r l ≡ Joins q → (JoinedBefore r l q → ⊥) → taken_of r l q ≡ Some l' → Goes r a l' ks
+    forked : (l l' : Local) (c : LocalState) (ks : List LocalState) → Goes r a l ks → next s r l ≡ Forks l' c.local
+        → c.path ≡ child r l.forks → Goes r a l' (ks ++ c ∷ [])
+    joined : (l l' : Local) (q : Path) (ks : List LocalState) → Goes r a l ks → next s r l ≡ Joins q
+        → (JoinedBefore r l q → ⊥) → taken_of r l q ≡ Some l' → Goes r a l' ks
 
   -- nothing more comes of it
   pub data Stops (r : Path) (l : Local) : Computed Part → Type 0 where

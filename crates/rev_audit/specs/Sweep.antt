@@ -52,19 +52,24 @@ module _ (s : Setting) (fuel : ℕ) (parts : List Part) where
   -- where the revisions with a part begin, as far as that is kept, and the first of those without
   pub record IsStarts (starts : List (Option LocalState)) (unstated : Option LocalState) : Type 0 where
     pub count : length starts ≡ length parts
-    pub begun : (k : ℕ) (p : Part) (x : LocalState) → slice_get parts k ≡ Some p → slice_get starts k ≡ Some (Some x) → (x.path ≡ p.path) × BeginsAt s fuel parts x.path x.local
+    pub begun : (k : ℕ) (p : Part) (x : LocalState) → slice_get parts k ≡ Some p → slice_get starts k ≡ Some (Some x)
+        → (x.path ≡ p.path) × BeginsAt s fuel parts x.path x.local
     pub others : BeginsUnstated unstated
 
   -- it is kept that this revision begins here: by its part, if that has a number below this one; and if it has no part,
   -- the revision that is kept as the first of those is this one or comes before it
-  pub record Holds (i : ℕ) (starts : List (Option LocalState)) (unstated : Option LocalState) (x : LocalState) : Type 0 where
-    pub stated : (k : ℕ) (p : Part) → k < i → slice_get parts k ≡ Some p → p.path ≡ x.path → slice_get starts k ≡ Some (Some x)
+  pub record Holds (i : ℕ) (starts : List (Option LocalState)) (unstated : Option LocalState) (x : LocalState) : Type
+      0 where
+    pub stated : (k : ℕ) (p : Part) → k < i → slice_get parts k ≡ Some p → p.path ≡ x.path
+        → slice_get starts k ≡ Some (Some x)
     pub others : part_at parts x.path ≡ None → IsSoonest unstated x.path
 
   -- it begins as `main`, or as a child of a revision whose part has this number or a greater one
   pub data BegunFrom (i : ℕ) (x : LocalState) : Type 0 where
     from_main : x.path ≡ [] → x.local ≡ main s fuel → BegunFrom i x
-    from_part : (k : ℕ) (p : Part) (first l l' : Local) → i ≤ k → slice_get parts k ≡ Some p → BeginsAt s fuel parts p.path first → HasPassed p.path first l → next s p.path l ≡ Forks l' x.local → x.path ≡ child p.path l.forks → BegunFrom i x
+    from_part : (k : ℕ) (p : Part) (first l l' : Local) → i ≤ k → slice_get parts k ≡ Some p
+        → BeginsAt s fuel parts p.path first → HasPassed p.path first l → next s p.path l ≡ Forks l' x.local
+        → x.path ≡ child p.path l.forks → BegunFrom i x
 
   -- each part with a number from the first to below the second is the computed one
   abbrev pub AreJustified : ℕ → ℕ → Type 0

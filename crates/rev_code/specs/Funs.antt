@@ -37,7 +37,8 @@ setting_of_fun code before = record { code = code; funs = before; inputs = []; s
 -- the value of block n
 abbrev pub value_of : {H : Type 0} → Code → List (Fun H) → ℕ → CodeBlock → Fun H
 value_of code before n b = λ args.
-    if fits (params b) args then answer (reach (setting_of_fun code before) (length b.instrs) (fun_start n b args)) else None
+    if fits (params b) args then answer (reach (setting_of_fun code before) (length b.instrs) (fun_start n b args))
+    else None
 
 -- the values of blocks, of which the first has this number and these before it
 abbrev pub values_from : {H : Type 0} → Code → List (Fun H) → ℕ → List CodeBlock → List (Fun H)

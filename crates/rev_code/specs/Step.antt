@@ -85,7 +85,8 @@ pushes c rest (Some w) = on c (w ∷ rest)
 -- pop into the local of this kind
 abbrev pub into_local : {H : Type 0} → State H → ℕ → Option ValueKind → List (Word H) → Comes H
 into_local c n (Some k) (w ∷ rest) =
-    if same_kind k (kind_of w) then goes (record c { at = suc c.at; stack = rest; locals = slice_set c.locals n w }) else stuck
+    if same_kind k (kind_of w) then goes (record c { at = suc c.at; stack = rest; locals = slice_set c.locals n w })
+    else stuck
 into_local c n _ _ = stuck
 
 -- the state after a write to a location
@@ -219,7 +220,8 @@ enter c n b args = record c {
 
 abbrev pub call_with : {H : Type 0} → State H → ℕ → CodeBlock → Option (List (Word H)) → Comes H
 call_with c n b None = stuck
-call_with c n b (Some args) = if nat_lt (suc (length c.below)) most_frames then goes (enter c n b args) else traps c cause.CallDepth
+call_with c n b (Some args) =
+    if nat_lt (suc (length c.below)) most_frames then goes (enter c n b args) else traps c cause.CallDepth
 
 -- arguments to the result, if any, which comes when the frame that is entered returns
 abbrev pub call : {H : Type 0} → State H → ℕ → Option CodeBlock → Comes H

@@ -39,4 +39,5 @@ cell_at p (negsuc i) = None
 -- all locations, with their start values as the snapshot and nothing written
 abbrev pub start_locations : {H : Type 0} → List CodeVar → List (Location H)
 start_locations [] = []
-start_locations (v ∷ vs) = replicate v.cells (record { snapshot = start_word v.kind v.start; written = None }) ++ start_locations vs
+start_locations (v ∷ vs) =
+    replicate v.cells (record { snapshot = start_word v.kind v.start; written = None }) ++ start_locations vs

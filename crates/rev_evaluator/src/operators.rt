@@ -52,6 +52,7 @@ pub fn checked<'a>(outcome: Result<i64, NumFault>) -> Result<Seen<'a>, Cause>
     }
 }
 
+/// A truth value as the value of an expression.
 pub fn flag<'a>(b: bool) -> Result<Seen<'a>, Cause>
     ensures { answer result ≡ spec.flag b }
 {
@@ -79,6 +80,7 @@ pub fn operated<'a>(op: BinaryOp, x: Seen<'a>, y: Seen<'a>) -> Result<Seen<'a>, 
     }
 }
 
+/// The value of an operator that stands before its only operand.
 pub fn reversed<'a>(op: UnaryOp, x: Seen) -> Result<Seen<'a>, Cause>
     ensures { answer result ≡ spec.reversed op (seen x.entry) }
 {

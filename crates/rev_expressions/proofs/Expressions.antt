@@ -137,7 +137,8 @@ module _ (bytes : List ℕ) (n : ℕ) where
           and_then (B m s.CloseParen rest4) (λ b rest6. Read (placed at (pick c a b)) rest6))
       by_second c (Read a rest4) =
           by_last c a (E bytes m rest4)
-          ∙ ap (λ o. and_then o (λ b rest6. Read (placed at (pick c a b)) rest6)) (sym (before_reads m s.CloseParen rest4))
+          ∙ ap (λ o. and_then o (λ b rest6. Read (placed at (pick c a b)) rest6))
+          (sym (before_reads m s.CloseParen rest4))
       by_second c (Failed x rest4) = refl
 
       by_first : (o : Outcome Token Expression)

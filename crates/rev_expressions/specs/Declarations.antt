@@ -31,7 +31,8 @@ constant_word s x = token (class.fixed s) (λ y. record { at = y.start; value = 
 -- [ "-" ] INT | "true" | "false" | "none"
 unfoldable pub constant : Rule Constant
 constant =
-    either (both (λ at n. record { at = at; value = v.Int (neg_ℤ n) }) (place s.Minus) (token class.number (λ x. int_of x.kind)))
+    either (both (λ at n. record { at = at; value = v.Int (neg_ℤ n) }) (place s.Minus)
+    (token class.number (λ x. int_of x.kind)))
     (either (token class.number (λ x. record { at = x.start; value = v.Int (int_of x.kind) }))
     (either (constant_word s.True (v.Bool true))
     (either (constant_word s.False (v.Bool false))
@@ -88,7 +89,8 @@ module _ (bytes : List ℕ) where
   -- NAME "(" NAME "," NAME "," NAME ")" "=" expr ";"
   unfoldable pub merge_form : Rule Declaration
   merge_form =
-      both {B = (PlacedName × PlacedName × PlacedName) × Expression} (λ w r. t.merge w r.0.0 r.0.1 r.0.2 r.1) (name bytes)
+      both {B = (PlacedName × PlacedName × PlacedName) × Expression} (λ w r. t.merge w r.0.0 r.0.1 r.0.2 r.1)
+      (name bytes)
       (both (λ ns e. (ns, e)) (level (class.fixed s.OpenParen) Names (λ x ns. ns)) meaning)
 
   -- NAME ":" kind [ "[" INT "]" ]

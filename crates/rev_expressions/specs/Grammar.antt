@@ -160,7 +160,8 @@ module _ (bytes : List ℕ) where
       (either (both (λ w rest. rest w) name name_tail)
       (either (both (λ at i. t.placed at (t.input at i)) (place s.Input) bracketed)
       (either (token (class.fixed s.Inputs) (λ x. t.placed x.start (t.inputs x.start)))
-      (either (both {B = Expression × Expression × Expression} (λ at p. t.placed at (t.pick p.0 p.1 p.2)) (place s.Pick) choice)
+      (either (both {B = Expression × Expression × Expression} (λ at p. t.placed at (t.pick p.0 p.1 p.2)) (place s.Pick)
+      choice)
       (level (class.fixed s.OpenParen) Parens (λ x e. moved x.start e)))))))))
 
   -- ( "-" | "!" ) unary | primary

@@ -54,19 +54,24 @@ abbrev pub operator_begins : Rank → List Token → Bool
 operator_begins r.Product ts = begins alphabet (rank_sign r.Product) ts
 operator_begins r.Sum ts = begins alphabet (rank_sign r.Product) ts || begins alphabet (rank_sign r.Sum) ts
 operator_begins r.Compare ts =
-    begins alphabet (rank_sign r.Product) ts || begins alphabet (rank_sign r.Sum) ts || begins alphabet (rank_sign r.Compare) ts
+    begins alphabet (rank_sign r.Product) ts || begins alphabet (rank_sign r.Sum) ts || begins alphabet
+    (rank_sign r.Compare) ts
 operator_begins r.And ts =
-    begins alphabet (rank_sign r.Product) ts || begins alphabet (rank_sign r.Sum) ts || begins alphabet (rank_sign r.Compare) ts
+    begins alphabet (rank_sign r.Product) ts || begins alphabet (rank_sign r.Sum) ts || begins alphabet
+    (rank_sign r.Compare) ts
     || begins alphabet (rank_sign r.And) ts
 operator_begins r.Or ts =
-    begins alphabet (rank_sign r.Product) ts || begins alphabet (rank_sign r.Sum) ts || begins alphabet (rank_sign r.Compare) ts
+    begins alphabet (rank_sign r.Product) ts || begins alphabet (rank_sign r.Sum) ts || begins alphabet
+    (rank_sign r.Compare) ts
     || begins alphabet (rank_sign r.And) ts || begins alphabet (rank_sign r.Or) ts
 
 -- a chain of this rank, behind its first operand
 abbrev pub chain_behind : List ℕ → ℕ → Rank → Expression → Parser Token Expression
-chain_behind bytes n rank first ts = and_then (parse bytes n (links bytes rank) ts) (λ ls rest. Read (joined first ls) rest)
+chain_behind bytes n rank first ts =
+    and_then (parse bytes n (links bytes rank) ts) (λ ls rest. Read (joined first ls) rest)
 
--- the chains up to one of this rank, each of which is the first operand of the next, behind the first operand of them all
+-- the chains up to one of this rank, each of which is the first operand of the next,
+-- behind the first operand of them all
 abbrev pub product_behind : List ℕ → ℕ → Expression → Parser Token Expression
 product_behind bytes n first ts = chain_behind bytes n r.Product first ts
 
@@ -74,13 +79,16 @@ abbrev pub sum_behind : List ℕ → ℕ → Expression → Parser Token Express
 sum_behind bytes n first ts = and_then (product_behind bytes n first ts) (λ e rest. chain_behind bytes n r.Sum e rest)
 
 abbrev pub comparison_behind : List ℕ → ℕ → Expression → Parser Token Expression
-comparison_behind bytes n first ts = and_then (sum_behind bytes n first ts) (λ e rest. chain_behind bytes n r.Compare e rest)
+comparison_behind bytes n first ts =
+    and_then (sum_behind bytes n first ts) (λ e rest. chain_behind bytes n r.Compare e rest)
 
 abbrev pub conjunction_behind : List ℕ → ℕ → Expression → Parser Token Expression
-conjunction_behind bytes n first ts = and_then (comparison_behind bytes n first ts) (λ e rest. chain_behind bytes n r.And e rest)
+conjunction_behind bytes n first ts =
+    and_then (comparison_behind bytes n first ts) (λ e rest. chain_behind bytes n r.And e rest)
 
 abbrev pub expr_behind : List ℕ → ℕ → Expression → Parser Token Expression
-expr_behind bytes n first ts = and_then (conjunction_behind bytes n first ts) (λ e rest. chain_behind bytes n r.Or e rest)
+expr_behind bytes n first ts =
+    and_then (conjunction_behind bytes n first ts) (λ e rest. chain_behind bytes n r.Or e rest)
 
 abbrev pub ranked_behind : List ℕ → ℕ → Rank → Expression → Parser Token Expression
 ranked_behind bytes n r.Product first ts = product_behind bytes n first ts

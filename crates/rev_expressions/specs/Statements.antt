@@ -53,8 +53,10 @@ module _ (bytes : List ℕ) where
   -- expr | "call" application | "rfork" application | "tryjoin" expr
   unfoldable pub right_side : Rule RightSide
   right_side =
-      either (both {B = PlacedName × List Expression} (λ at a. t.called at a.0 (expressions_of a.1)) (place s.Call) application)
-      (either (both {B = PlacedName × List Expression} (λ at a. t.forked at a.0 (expressions_of a.1)) (place s.Fork) application)
+      either (both {B = PlacedName × List Expression} (λ at a. t.called at a.0 (expressions_of a.1)) (place s.Call)
+      application)
+      (either (both {B = PlacedName × List Expression} (λ at a. t.forked at a.0 (expressions_of a.1)) (place s.Fork)
+      application)
       (either (both (λ at e. t.tried at e) (place s.TryJoin) (expr bytes))
       (both (λ e x. t.plain e) (expr bytes) (nothing {A = Unit {0}} tt))))
 
@@ -109,16 +111,19 @@ module _ (bytes : List ℕ) where
 
   -- "call" application ";"
   unfoldable pub call_form : Rule StatementForm
-  call_form = both {A = PlacedName × List Expression} (λ a x. t.call a.0 (expressions_of a.1)) application (sign s.Semicolon)
+  call_form = both {A = PlacedName × List Expression} (λ a x. t.call a.0 (expressions_of a.1)) application
+      (sign s.Semicolon)
 
   -- "return" [ expr ] ";"
   unfoldable pub return_form : Rule StatementForm
   return_form =
-      both (λ e x. t.return e) (either (both (λ e x. Some e) (expr bytes) (nothing {A = Unit {0}} tt)) (nothing None)) (sign s.Semicolon)
+      both (λ e x. t.return e) (either (both (λ e x. Some e) (expr bytes) (nothing {A = Unit {0}} tt)) (nothing None))
+      (sign s.Semicolon)
 
   -- "rfork" application ";"
   unfoldable pub fork_form : Rule StatementForm
-  fork_form = both {A = PlacedName × List Expression} (λ a x. t.fork a.0 (expressions_of a.1)) application (sign s.Semicolon)
+  fork_form = both {A = PlacedName × List Expression} (λ a x. t.fork a.0 (expressions_of a.1)) application
+      (sign s.Semicolon)
 
   -- "rjoin" expr ";"
   unfoldable pub join_form : Rule StatementForm
@@ -135,7 +140,8 @@ module _ (bytes : List ℕ) where
   unfoldable pub statement : Rule Statement
   statement =
       either (stmt s.Let let_form)
-      (either (both (λ x f. t.statement x.start (line_of bytes x.start) (f (word_of bytes x))) (token class.name (λ x. x)) assignment)
+      (either (both (λ x f. t.statement x.start (line_of bytes x.start) (f (word_of bytes x)))
+      (token class.name (λ x. x)) assignment)
       (either (stmt s.If if_form)
       (either (stmt s.While while_form)
       (either (stmt s.Call call_form)

@@ -33,7 +33,8 @@ malformed at = codes "error: trace byte " ++ (decimal at ++ codes ": malformed")
 -- what is said of an entry of a schedule, and of the revision that it names
 abbrev pub cannot_step : ℕ → ℕ → List ℕ
 cannot_step entry revision =
-    codes "error: schedule entry " ++ (decimal entry ++ (codes ": revision " ++ (decimal revision ++ codes " cannot step")))
+    codes "error: schedule entry "
+    ++ (decimal entry ++ (codes ": revision " ++ (decimal revision ++ codes " cannot step")))
 
 -- what is said of a revision whose part in a trace is another than it should be
 abbrev pub differs : Path → List ℕ

@@ -39,4 +39,5 @@ least_i64 = negsuc (2 ^ 63 - 1)
 pub record DivisionFailsOnlyThere : Type 0 where
   pub by_zero : (a : ℤ) → (quotient_of a (pos 0) ≡ Err ZeroDivisor) × (remainder_of a (pos 0) ≡ Err ZeroDivisor)
   pub least : (quotient_of least_i64 (negsuc 0) ≡ Err Overflow) × (remainder_of least_i64 (negsuc 0) ≡ Err Overflow)
-  pub others : (a b : ℤ) → IsTrue (fits_i64 a) → b ≢ pos 0 → (a ≡ least_i64 → b ≢ negsuc 0) → (quotient_of a b ≡ Ok (int_div a b)) × (remainder_of a b ≡ Ok (int_rem a b))
+  pub others : (a b : ℤ) → IsTrue (fits_i64 a) → b ≢ pos 0 → (a ≡ least_i64 → b ≢ negsuc 0)
+      → (quotient_of a b ≡ Ok (int_div a b)) × (remainder_of a b ≡ Ok (int_rem a b))

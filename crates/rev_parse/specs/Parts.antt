@@ -28,7 +28,8 @@ abbrev pub more_parts : List ℕ → ℕ → ℕ → List Else → Parser Token 
 more_parts bytes n = repeat alphabet (parse bytes n (else_part bytes)) is_last (begins alphabet (else_part bytes))
 
 -- what follows a name that begins a statement, at that name
-abbrev pub statement_form_of_name : PlacedName → Outcome Token (PlacedName → StatementForm) → Outcome Token StatementForm
+abbrev pub statement_form_of_name : PlacedName → Outcome Token (PlacedName → StatementForm)
+    → Outcome Token StatementForm
 statement_form_of_name w o = and_then o (λ f rest. Read (f w) rest)
 
 -- a form behind its first word

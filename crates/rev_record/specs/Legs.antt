@@ -54,7 +54,8 @@ pub record IsRecorded (g : CodeRun) (fuel : ℕ) (w : World (Local ℕ)) (ks : L
   pub so_far : IsRecordedSoFar g from.number from.main fuel w known
 
 -- no more revisions than legs
-pub record IsRepeated (g : CodeRun) (fuel : ℕ) (es : List Known) (w : World (Local ℕ)) (ks : List LeafEntry) (count : ℕ) : Type 0 where
+pub record IsRepeated (g : CodeRun) (fuel : ℕ) (es : List Known) (w : World (Local ℕ)) (ks : List LeafEntry) (count : ℕ)
+    : Type 0 where
   pub from : IsFrom g fuel w
   pub stand : AreKnown g.code ks es
   pub taken : List Path
@@ -74,7 +75,8 @@ pub record StandsFresh (g : CodeRun) (w : Entries (Local ℕ)) (n : ℕ) (x : Fr
 
 -- ---- recording
 
-pub record WasNoted (g : CodeRun) (w : Entries (Local ℕ)) (n : ℕ) (x : FreshStart) (made : NotedLeg) (noted : ReadMarks) (v : rust_world.World)
+pub record WasNoted (g : CodeRun) (w : Entries (Local ℕ)) (n : ℕ) (x : FreshStart) (made : NotedLeg) (noted : ReadMarks)
+    (v : rust_world.World)
     : Type 0 where
   pub start : StandsFresh g w n x
   pub rooms : locations noted.locations ≡ length x.base.items
@@ -91,7 +93,8 @@ is_leaf answer.Ended None = true
 is_leaf answer.Trapped None = true
 is_leaf _ _ = false
 
-pub record HasKept (g : CodeRun) (fuel : ℕ) (w : Entries (Local ℕ)) (n : ℕ) (old new : List LeafEntry) (from : IsFrom g fuel (Listing w)) : Type 0 where
+pub record HasKept (g : CodeRun) (fuel : ℕ) (w : Entries (Local ℕ)) (n : ℕ) (old new : List LeafEntry)
+    (from : IsFrom g fuel (Listing w)) : Type 0 where
   pub path : Path
   pub local : Local ℕ
   pub leaf : LeafLeg g w n path local
@@ -105,7 +108,8 @@ pub record HasKept (g : CodeRun) (fuel : ℕ) (w : Entries (Local ℕ)) (n : ℕ
 -- ---- repeating
 
 -- of the revision of this number, by these entries
-abbrev pub IsTaken : (g : CodeRun) (fuel : ℕ) (es : List Known) (w : Entries (Local ℕ)) (n : ℕ) → IsFrom g fuel (Listing w) → Option EndValue → Type 0
+abbrev pub IsTaken : (g : CodeRun) (fuel : ℕ) (es : List Known) (w : Entries (Local ℕ)) (n : ℕ)
+    → IsFrom g fuel (Listing w) → Option EndValue → Type 0
 IsTaken g fuel es w n from (Some v) =
     (r : Path) × (l : Local ℕ) × LeafLeg g w n r l × HasValid g from.number from.main fuel es r × EndsSo g w n v
 IsTaken g fuel es w n from None =

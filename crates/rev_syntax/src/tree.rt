@@ -45,6 +45,7 @@ pub struct Expr {
     pub node: Node,
 }
 
+/// What an expression is made of, without its offset.
 #[cycle(expr)]
 #[derive(Drop)]
 pub enum Node {
@@ -97,6 +98,7 @@ pub struct Link {
     pub part: Expr,
 }
 
+/// Statements between braces.
 #[cycle(stmt)]
 #[derive(Drop)]
 pub struct Block {
@@ -112,6 +114,7 @@ pub struct Stmt {
     pub form: Form,
 }
 
+/// What a statement does, without its offset and line.
 #[cycle(stmt)]
 #[derive(Drop)]
 pub enum Form {
@@ -220,6 +223,7 @@ pub struct Const {
     pub value: Value,
 }
 
+/// A declaration of a program.
 #[derive(Drop)]
 pub enum Decl {
     /// `fun name(params): result = body;`

@@ -1,6 +1,7 @@
 -- By which kernels the run was planned that a call hands out.
 --
--- `HasChosen`: for the locations of a program; `HasChosenIn`: of the program that a text is; `KernelsOf`: of the program
+-- `HasChosen`: for the locations of a program; `HasChosenIn`: of the program that a text is;
+-- `KernelsOf`: of the program
 -- of the call. Nobody has to believe this for what is written: whatever the kernels, that is the same.
 use Rattle.std.specs.Prelude.{ℕ, List, ◌≡◌, Option, Some, None, Ok}
 use Rattle.rev_io.specs.Stream.{Stream}

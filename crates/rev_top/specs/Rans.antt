@@ -86,7 +86,8 @@ Leaves (Some w) old new ran (Ok o) =
 
 -- ---- how a call goes
 
--- a call made an answer that belongs to its words and to what the source gave, with what stands beside it, and delivered
+-- a call made an answer that belongs to its words and to what the source gave,
+-- with what stands beside it, and delivered
 -- it; or memory ran out before
 pub data Happened (words : Option Words) (source source' out out' err err' : Stream) (ran : Option Ran)
     (status : ℕ) : Type 0 where

@@ -40,14 +40,16 @@ NoProgramBeginsATrace =
 -- with the numbers, the share and the fuel of words that have a reading.
 abbrev pub TraceHasForm : Type 0
 TraceHasForm =
-    (words : List (List ℕ)) (w : Words) → reading words ≡ Some w → (text : List ℕ) (p : ProgramTree) → Checks text (Ok p)
+    (words : List (List ℕ)) (w : Words) → reading words ≡ Some w → (text : List ℕ) (p : ProgramTree)
+    → Checks text (Ok p)
     → length text ≤ source_limit → (t : Trace) → HasTrace (setting w p) w.fuel (Some t) → IsTrace t
 
 -- The answer of `audit` to a program's text of whole lines and, behind it, the trace of its runs with
 -- the numbers, the share and the fuel of the words is `yes`, where the two together are not too long.
 abbrev pub AuditsOwnTrace : Type 0
 AuditsOwnTrace =
-    (words : List (List ℕ)) (w : Words) → reading words ≡ Some w → w.mode ≡ modes.Audit → (text : List ℕ) (p : ProgramTree)
+    (words : List (List ℕ)) (w : Words) → reading words ≡ Some w → w.mode ≡ modes.Audit
+    → (text : List ℕ) (p : ProgramTree)
     → Checks text (Ok p) → IsWholeLines text → length text ≤ source_limit
     → (t : Trace) → HasTrace (setting w p) w.fuel (Some t) → length (text ++ trace_text t) ≤ file_limit
     → Says (Some w) (text ++ trace_text t) (Ok agreed)

@@ -46,7 +46,8 @@ pub record IsSound (text : List ℕ) : Type 0 where
 abbrev pub at_fault : List ℕ → ℕ → List ℕ → Output
 at_fault text at what =
     failed REFUSED
-    (codes "error: line " ++ (decimal (line_of text at) ++ (codes " column " ++ (decimal (column_of text at) ++ (codes ": " ++ what)))))
+    (codes "error: line " ++
+    (decimal (line_of text at) ++ (codes " column " ++ (decimal (column_of text at) ++ (codes ": " ++ what)))))
 
 -- an unexpected token, or the end of the text
 abbrev pub unexpected_name : List ℕ → ℕ → List ℕ
@@ -58,13 +59,17 @@ pub data Refuses (text : List ℕ) : Output → Type 0 where
   bad_number : {at : ℕ} → Stops IsBadNumber text at → Refuses text (at_fault text at (codes "bad number"))
   open_text : {at : ℕ} → Stops IsOpenText text at → Refuses text (at_fault text at (codes "open text"))
   no_program : {ts : List Token} {n at : ℕ}
-      → IsTokens text ts → IsUnexpected text ts n → at ≡ place_of text (drop n ts) → Refuses text (at_fault text at (unexpected_name text at))
+      → IsTokens text ts → IsUnexpected text ts n → at ≡ place_of text (drop n ts)
+      → Refuses text (at_fault text at (unexpected_name text at))
   many_levels : {ts : List Token} {n at : ℕ}
-      → IsTokens text ts → IsTooDeep text ts n → at ≡ place_of text (drop n ts) → Refuses text (at_fault text at (codes "nested too deep"))
+      → IsTokens text ts → IsTooDeep text ts n → at ≡ place_of text (drop n ts)
+      → Refuses text (at_fault text at (codes "nested too deep"))
   broken_fun_rule : {ts : List Token} {p : ProgramTree} {f : MergeFault}
-      → IsTokens text ts → IsProgram text ts p → IsFirstOf (BreaksFun p) fun_rules.row f → Refuses text (at_fault text (fun_rules.row f).0 (fun_rules.row f).2)
+      → IsTokens text ts → IsProgram text ts p → IsFirstOf (BreaksFun p) fun_rules.row f
+      → Refuses text (at_fault text (fun_rules.row f).0 (fun_rules.row f).2)
   broken_rule : {ts : List Token} {p : ProgramTree} {f : TypeFault}
-      → IsTokens text ts → IsProgram text ts p → KeepsFunRules p → IsFirstOf (Breaks p) type_rules.row f → Refuses text (at_fault text (type_rules.row f).0 (type_rules.row f).2)
+      → IsTokens text ts → IsProgram text ts p → KeepsFunRules p → IsFirstOf (Breaks p) type_rules.row f
+      → Refuses text (at_fault text (type_rules.row f).0 (type_rules.row f).2)
 
 -- of a text: its refusal, or what is written of its program
 abbrev pub OfText : List ℕ → (ProgramTree → Output → Type 0) → Output → Type 0

@@ -32,7 +32,8 @@ module _ {P S : Type 0} {m : Ghosts P S} {v w : RunningRevision P S m} (same : v
       → IsAt g v.run v.memory.delta (m.base v.memory.snapshot) v.memory.first.roots c
       → IsAt g w.run w.memory.delta (m.base w.memory.snapshot) w.memory.first.roots c
   same_at g c =
-      subst (λ (r : RunningRevision P S m). IsAt g r.run r.memory.delta (m.base r.memory.snapshot) r.memory.first.roots c) same
+      subst (λ (r : RunningRevision P S m). IsAt g r.run r.memory.delta (m.base r.memory.snapshot) r.memory.first.roots
+      c) same
 
   pub same_some : (g : CodeRun)
       → (c : State ℕ) × IsAt g v.run v.memory.delta (m.base v.memory.snapshot) v.memory.first.roots c
@@ -96,7 +97,8 @@ module _ {P S : Type 0} {m : Ghosts P S} {v w : RunningRevision P S m} (same : v
       → finish.Trapped (record { cause = e; line = v.run.registers.line; origin = None })
       ≡ finish.Trapped (record { cause = e; line = w.run.registers.line; origin = None })
   same_line e =
-      ap (λ (r : RunningRevision P S m). finish.Trapped (record { cause = e; line = r.run.registers.line; origin = None }))
+      ap (λ (r : RunningRevision P S m). finish.Trapped
+      (record { cause = e; line = r.run.registers.line; origin = None }))
       same
 
 module _ {P S : Type 0} {m : Ghosts P S} {v w : Memory P S m} (same : v ≡ w) where

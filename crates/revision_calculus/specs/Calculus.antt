@@ -18,7 +18,8 @@ start_values (x ∷ xs) = replicate x.info.cells (first_of x) ++ start_values xs
 
 -- `main` with this fuel, before its first statement
 abbrev pub main : Setting → ℕ → Local
-main s fuel = begun (start_values (variables s.program)) (record { locals = []; rest = s.program.main; left = None }) fuel
+main s fuel = begun (start_values (variables s.program)) (record { locals = []; rest = s.program.main; left = None })
+    fuel
 
 abbrev pub calculus : Setting → Machine
 calculus s = record { Local = Local; next = next s; forks = λ l. l.forks; join = join s }

@@ -25,7 +25,8 @@ top_locals (f ∷ fs) = f.locals
 abbrev pub read_shared : Option SharedVariable → List Location → Shared
 read_shared None locations = unknown
 read_shared (Some x) locations =
-    if x.info.array then array x.info.cells (λ i. view_at locations (x.info.base + i)) else scalar (view_at locations x.info.base)
+    if x.info.array then array x.info.cells (λ i. view_at locations (x.info.base + i))
+    else scalar (view_at locations x.info.base)
 
 -- the locals of the top frame, the shared variables of the view, and the input numbers
 abbrev pub env : Setting → Local → Env

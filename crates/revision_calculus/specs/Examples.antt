@@ -244,7 +244,8 @@ abbrev pub overflows_at_join : Statement → ProgramTree
 overflows_at_join join = program
     (sum
     ∷ cumulative_array "a" 2 "sum"
-    ∷ proc "child" [] (assign_cell 3 "a" (int 1) (int 9223372036854775807) ∷ assign_cell 3 "a" (int 0) (int 9223372036854775807) ∷ [])
+    ∷ proc "child" [] (assign_cell 3 "a" (int 1) (int 9223372036854775807) ∷ assign_cell 3 "a" (int 0)
+    (int 9223372036854775807) ∷ [])
     ∷ [])
     (let_ 5 "h" (rfork "child" [])
     ∷ assign_cell 6 "a" (int 0) (int 1)
@@ -286,22 +287,27 @@ writes_before_the_start = with_two_cells (assign_cell 4 "a" (neg (int 1)) (op (i
 
 -- main { print (-9223372036854775807 - 1) / -1; }
 abbrev pub divides_the_least : ProgramTree
-divides_the_least = program [] (print 1 (item (op (op (neg (int 9223372036854775807)) b.Sub (int 1)) b.Div (neg (int 1))) ∷ []) ∷ [])
+divides_the_least = program []
+    (print 1 (item (op (op (neg (int 9223372036854775807)) b.Sub (int 1)) b.Div (neg (int 1))) ∷ []) ∷ [])
 
 -- main { print -7 / 2, -7 % 2; }
 abbrev pub divides_toward_zero : ProgramTree
-divides_toward_zero = program [] (print 1 (item (op (neg (int 7)) b.Div (int 2)) ∷ item (op (neg (int 7)) b.Rem (int 2)) ∷ []) ∷ [])
+divides_toward_zero = program []
+    (print 1 (item (op (neg (int 7)) b.Div (int 2)) ∷ item (op (neg (int 7)) b.Rem (int 2)) ∷ []) ∷ [])
 
 -- main { print (1 / 0) + (9223372036854775807 + 1); }
 abbrev pub faults_from_the_left : ProgramTree
-faults_from_the_left = program [] (print 1 (item (op (op (int 1) b.Div (int 0)) b.Add (op (int 9223372036854775807) b.Add (int 1))) ∷ []) ∷ [])
+faults_from_the_left = program []
+    (print 1 (item (op (op (int 1) b.Div (int 0)) b.Add (op (int 9223372036854775807) b.Add (int 1))) ∷ []) ∷ [])
 
 -- fun larger(a: int, b: int): int = pick(a > b, a, b);
 -- main { print larger(3, 5), pick(true, 1, 1 / 0), !(1 > 2); }
 abbrev pub picks : ProgramTree
 picks = program
-    (fun "larger" (param "a" kind.Int ∷ param "b" kind.Int ∷ []) kind.Int (pick (op (var "a") b.Gt (var "b")) (var "a") (var "b")) ∷ [])
-    (print 2 (item (apply "larger" (int 3 ∷ int 5 ∷ [])) ∷ item (pick (bool true) (int 1) (op (int 1) b.Div (int 0))) ∷ item (not (op (int 1) b.Gt (int 2))) ∷ []) ∷ [])
+    (fun "larger" (param "a" kind.Int ∷ param "b" kind.Int ∷ []) kind.Int
+    (pick (op (var "a") b.Gt (var "b")) (var "a") (var "b")) ∷ [])
+    (print 2 (item (apply "larger" (int 3 ∷ int 5 ∷ [])) ∷ item (pick (bool true) (int 1) (op (int 1) b.Div (int 0)))
+    ∷ item (not (op (int 1) b.Gt (int 2))) ∷ []) ∷ [])
 
 -- 1 / 0 == 1
 abbrev zero_divides : Expression
@@ -310,7 +316,8 @@ zero_divides = op (op (int 1) b.Div (int 0)) b.Eq (int 1)
 -- main { print false && 1 / 0 == 1, true || 1 / 0 == 1, true && false, false || true; }
 abbrev pub decides_from_the_left : ProgramTree
 decides_from_the_left = program []
-    (print 1 (item (op (bool false) b.And zero_divides) ∷ item (op (bool true) b.Or zero_divides) ∷ item (op (bool true) b.And (bool false)) ∷ item (op (bool false) b.Or (bool true)) ∷ []) ∷ [])
+    (print 1 (item (op (bool false) b.And zero_divides) ∷ item (op (bool true) b.Or zero_divides) ∷ item
+    (op (bool true) b.And (bool false)) ∷ item (op (bool false) b.Or (bool true)) ∷ []) ∷ [])
 
 -- main { print true && 1 / 0 == 1; }
 abbrev pub needs_the_right : ProgramTree
@@ -321,7 +328,8 @@ needs_the_right = program [] (print 1 (item (op (bool true) b.And zero_divides) 
 -- main { if 1 > 2 { print 1; } else { print 2; } print 3; }
 abbrev pub goes_to_the_else : ProgramTree
 goes_to_the_else = program []
-    (if_else 1 (op (int 1) b.Gt (int 2)) (print 1 (item (int 1) ∷ []) ∷ []) (print 1 (item (int 2) ∷ []) ∷ []) ∷ print 1 (item (int 3) ∷ []) ∷ [])
+    (if_else 1 (op (int 1) b.Gt (int 2)) (print 1 (item (int 1) ∷ []) ∷ []) (print 1 (item (int 2) ∷ []) ∷ []) ∷ print 1
+    (item (int 3) ∷ []) ∷ [])
 
 -- versioned x : int;
 -- proc sign(n: int): int { if n < 0 { return -1; } print n; return 1; }
@@ -329,7 +337,9 @@ goes_to_the_else = program []
 abbrev pub returns : ProgramTree
 returns = program
     (versioned "x" kind.Int
-    ∷ proc_giving kind.Int "sign" (param "n" kind.Int ∷ []) (if_ 2 (op (var "n") b.Lt (int 0)) (return 2 (neg (int 1)) ∷ []) ∷ print 2 (item (var "n") ∷ []) ∷ return 2 (int 1) ∷ [])
+    ∷ proc_giving kind.Int "sign" (param "n" kind.Int ∷ [])
+    (if_ 2 (op (var "n") b.Lt (int 0)) (return 2 (neg (int 1)) ∷ []) ∷ print 2 (item (var "n") ∷ []) ∷ return 2
+    (int 1) ∷ [])
     ∷ [])
     (let_ 3 "a" (call_of "sign" (int 5 ∷ []))
     ∷ assign 3 "x" (call_of "sign" (neg (int 5) ∷ []))
@@ -343,7 +353,8 @@ asserts_what_is_false = program [] (assert 1 (op (int 1) b.Gt (int 2)) ∷ [])
 -- proc f(n: int) { if n > 1 { call f(n - 1); } } main { call f(..); print 1; }
 abbrev pub calls_deep : ℕ → ProgramTree
 calls_deep n = program
-    (proc "f" (param "n" kind.Int ∷ []) (if_ 1 (op (var "n") b.Gt (int 1)) (call 1 "f" (op (var "n") b.Sub (int 1) ∷ []) ∷ []) ∷ []) ∷ [])
+    (proc "f" (param "n" kind.Int ∷ [])
+    (if_ 1 (op (var "n") b.Gt (int 1)) (call 1 "f" (op (var "n") b.Sub (int 1) ∷ []) ∷ []) ∷ []) ∷ [])
     (call 1 "f" (int n ∷ []) ∷ print 1 (item (int 1) ∷ []) ∷ [])
 
 -- ---- inputs
@@ -374,7 +385,9 @@ given p inputs = record { program = p; inputs = inputs; share = 1000000 }
 abbrev pub tries : ProgramTree
 tries = program
     (versioned "x" kind.Int
-    ∷ proc "child" (param "d" kind.Int ∷ []) (assign 2 "x" (value (int 1)) ∷ print 2 (quoted "child" ∷ []) ∷ assign 2 "x" (value (op (int 7) b.Div (var "d"))) ∷ [])
+    ∷ proc "child" (param "d" kind.Int ∷ [])
+    (assign 2 "x" (value (int 1)) ∷ print 2 (quoted "child" ∷ []) ∷ assign 2 "x" (value (op (int 7) b.Div (var "d")))
+    ∷ [])
     ∷ [])
     (let_ 4 "h" (rfork "child" (int 0 ∷ []))
     ∷ let_ 5 "ok" (tryjoin (var "h"))

@@ -80,7 +80,8 @@ LocationsAre (t ∷ ts) (m ∷ ms) = LocationIs t m × LocationsAre ts ms
 -- The locals of a frame in which these names are in scope. Each has a value of its kind, but for the one that waits
 -- for its value. A name whose block has ended may still have a value. No local has the name of a shared variable.
 pub record LocalsAre (c : Names) (scope : Locals) (waits : Option Name) (values : Table Value) : Type 0 where
-  pub kinds : (name : Name) (t : ValueKind) → waits ≢ Some name → find name scope ≡ Some (Some t) → IsSomeOf t (find name values)
+  pub kinds : (name : Name) (t : ValueKind) → waits ≢ Some name → find name scope ≡ Some (Some t)
+      → IsSomeOf t (find name values)
   pub apart : (name : Name) (h : Holder) → c.shared name ≡ Some h → (find name scope ≡ None) × (find name values ≡ None)
 
 -- what the first scope knows, the second knows with the same kinds
@@ -92,10 +93,12 @@ IsWithin inner outer = (name : Name) (t : Option ValueKind) → find name inner 
 abbrev pub RestTyped : Names → Option ValueKind → Locals → Statements → Type 0
 RestTyped c result scope no_statements = Unit {0}
 RestTyped c result scope (statements x rest) =
-    (known : Locals) × (after : Locals) × IsWithin known scope × StatementTyped c result known x after × RestTyped c result after rest
+    (known : Locals) × (after : Locals) × IsWithin known scope × StatementTyped c result known x after
+    × RestTyped c result after rest
 
 -- a frame of a procedure with this result, in which these names are in scope and this one waits for its value
-pub record FrameIs (c : Names) (result : Option ValueKind) (scope : Locals) (waits : Option Name) (f : Frame) : Type 0 where
+pub record FrameIs (c : Names) (result : Option ValueKind) (scope : Locals) (waits : Option Name) (f : Frame) : Type
+    0 where
   pub locals : LocalsAre c scope waits f.locals
   pub rest : RestTyped c result scope f.rest
   pub small : IsTrue (statements_small f.rest)
@@ -111,13 +114,15 @@ Takes c scope (Some name) (Some t) = ScalarHas (find name scope) (c.shared name)
 abbrev pub FramesAre : Names → Option Name → Option ValueKind → List Frame → Type 0
 FramesAre c waits given [] = waits ≡ None
 FramesAre c waits given (f ∷ fs) =
-    (scope : Locals) × (result : Option ValueKind) × Takes c scope waits given × FrameIs c result scope waits f × Returns result f.rest × FramesAre c f.left result fs
+    (scope : Locals) × (result : Option ValueKind) × Takes c scope waits given × FrameIs c result scope waits f
+    × Returns result f.rest × FramesAre c f.left result fs
 
 -- the frames where a statement trapped, whose left side has no value yet
 abbrev pub FramesTrapped : Names → List Frame → Type 0
 FramesTrapped c [] = Unit {0}
 FramesTrapped c (f ∷ fs) =
-    (scope : Locals) × (result : Option ValueKind) × (waits : Option Name) × FrameIs c result scope waits f × FramesAre c f.left result fs
+    (scope : Locals) × (result : Option ValueKind) × (waits : Option Name) × FrameIs c result scope waits f
+    × FramesAre c f.left result fs
 
 -- The frames of a revision in this phase. At a `tryjoin` the left side waits for a bool.
 abbrev pub FramesAt : Names → Phase → List Frame → Type 0
@@ -148,7 +153,8 @@ pub record IsKinded (s : Setting) (r : Path) (l : Local) : Type 0 where
 abbrev pub ValueLaw : Setting → Type 0
 ValueLaw s =
     (l : Local) (f : Frame) (fs : List Frame) (scope known : Locals) (e : Expression) (t : ValueKind)
-    → LocationsAre (location_kinds s) l.locations → l.frames ≡ f ∷ fs → LocalsAre (names s) scope None f.locals → IsWithin known scope
+    → LocationsAre (location_kinds s) l.locations → l.frames ≡ f ∷ fs → LocalsAre (names s) scope None f.locals
+    → IsWithin known scope
     → IsTrue (expression_formed e) → HasKind (names s) known e t → IfOk (eval s l e) (IsOf t)
 
 -- ---- merges
@@ -168,7 +174,8 @@ IsNumberOrFault (Err (cause.Merge n f)) = ⊥
 -- a merge of three ints is an int or a fault of arithmetic
 abbrev pub MergeLaw : ProgramTree → Type 0
 MergeLaw p =
-    (n : ℕ) (m j r : Value) → IsOf kind.Int m → IsOf kind.Int j → IsOf kind.Int r → IsNumberOrFault (merge_value_of p n m j r)
+    (n : ℕ) (m j r : Value) → IsOf kind.Int m → IsOf kind.Int j → IsOf kind.Int r
+    → IsNumberOrFault (merge_value_of p n m j r)
 
 -- what a joiner's location takes of a joinee's by the merge of this number: three ints go in
 pub record IsMerge (p : ProgramTree) (k : ℕ) (joiner joinee : Location) (x : Value) : Type 0 where

@@ -17,11 +17,13 @@ use Rattle.revision_calculus.specs.State.{Location, view_at, Phase, done, trappe
 abbrev pub show_cells : Name → List Location → (base cell : ℕ) → (count : ℕ) → List Shown
 show_cells name locations base cell zero = []
 show_cells name locations base cell (suc n) =
-    record { name = name; cell = Some cell; value = view_at locations (base + cell) } ∷ show_cells name locations base (suc cell) n
+    record { name = name; cell = Some cell; value = view_at locations (base + cell) } ∷ show_cells name locations base
+    (suc cell) n
 
 abbrev pub show_variable : List Location → SharedVariable → Bool → List Shown
 show_variable locations x true = show_cells x.declared.name.text locations x.info.base 0 x.info.cells
-show_variable locations x false = record { name = x.declared.name.text; cell = None; value = view_at locations x.info.base } ∷ []
+show_variable locations x false =
+    record { name = x.declared.name.text; cell = None; value = view_at locations x.info.base } ∷ []
 
 -- the values of the view by location, with their names
 abbrev pub show_all : List SharedVariable → List Location → List Shown

@@ -1,7 +1,8 @@
 -- What a revision does next: a step of its own, a fork, a join, or nothing more.
 --
 -- `traps` ends it with a cause; `enter` puts a block before what remains and `select` finds the block of an `if`;
--- `calls` adds a frame and `end_frame` ends one; `forks` makes a child with a part of the fuel; `joins` comes to a join;
+-- `calls` adds a frame and `end_frame` ends one; `forks` makes a child with a part of the fuel;
+-- `joins` comes to a join;
 -- `does` is what each statement does, and `next` the event of a revision.
 use Rattle.std.specs.Prelude.{ℕ, zero, suc, ◌-◌, ◌/◌, min, nat_le, if◌then◌else◌, List, [], ◌∷◌, ◌++◌, length, map, Option, Some, None, Result, Ok, Err}
 use Rattle.std.specs.List.{join_with_byte, zip}

@@ -16,5 +16,6 @@ calls_often n = program (proc "p" [] [] ∷ []) (replicate n (call 1 "p" []))
 -- with each fuel, and as many calls, a run has so many steps
 abbrev pub Takes : (ℕ → ℕ) → Type 0
 Takes many =
-    (fuel : ℕ) → (rs : List Path) × (g : Global Local) × Runs (calculus (usual (calls_often fuel))) (start_of (usual (calls_often fuel)) fuel) rs g
+    (fuel : ℕ) → (rs : List Path) × (g : Global Local)
+    × Runs (calculus (usual (calls_often fuel))) (start_of (usual (calls_often fuel)) fuel) rs g
     × (length rs ≡ many fuel)

@@ -85,7 +85,8 @@ if_ line test ss = t.statement 0 line (t.choose (arms_of ((test, statements_of s
 
 -- with the statements of its `else`
 abbrev pub if_else : ℕ → Expression → List Statement → List Statement → Statement
-if_else line test ss last = t.statement 0 line (t.choose_or (arms_of ((test, statements_of ss) ∷ [])) (statements_of last))
+if_else line test ss last =
+    t.statement 0 line (t.choose_or (arms_of ((test, statements_of ss) ∷ [])) (statements_of last))
 
 abbrev pub while : ℕ → Expression → List Statement → Statement
 while line test ss = t.statement 0 line (t.repeat test (statements_of ss))
@@ -143,7 +144,15 @@ versioned_array x k cells = t.shared (record {
 })
 
 abbrev pub cumulative : String → String → Declaration
-cumulative x merge = t.shared (record { name = placed_name x; by = Some (placed_name merge); kind_at = 0; holds = kind.Int; size = None; first = None })
+cumulative x merge = t.shared
+    (record {
+      name = placed_name x;
+      by = Some (placed_name merge);
+      kind_at = 0;
+      holds = kind.Int;
+      size = None;
+      first = None;
+    })
 
 abbrev pub cumulative_array : String → ℕ → String → Declaration
 cumulative_array x cells merge = t.shared (record {

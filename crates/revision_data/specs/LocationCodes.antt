@@ -7,4 +7,5 @@ use Rattle.revision_calculus.specs.State.{Location}
 
 abbrev pub coded_location : Coded Location
 coded_location =
-    code_by (Value × Option Value) (coded× value.the_row.coded (coded_option value.the_row.coded)) (λ m. (m.base, m.written)) (λ p. record { base = p.0; written = p.1 }) (λ _. refl)
+    code_by (Value × Option Value) (coded× value.the_row.coded (coded_option value.the_row.coded))
+    (λ m. (m.base, m.written)) (λ p. record { base = p.0; written = p.1 }) (λ _. refl)

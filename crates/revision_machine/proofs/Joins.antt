@@ -50,7 +50,8 @@ ends_at M revisions q j there y s ended d =
 module _ (M : Machine) (revisions : List (RevisionRow M.Local)) (i : ℕ) (q : Path)
     (distinct : IsDistinct (paths revisions)) (lt : i < length revisions)
     (plain : (d : RevisionRow M.Local) → (get_or revisions i d).joined ≡ false)
-    (joins : (d : RevisionRow M.Local) → M.next (get_or revisions i d).path (get_or revisions i d).state ≡ Joins q) where
+    (joins : (d : RevisionRow M.Local)
+    → M.next (get_or revisions i d).path (get_or revisions i d).state ≡ Joins q) where
   here : (d : RevisionRow M.Local)
       → globe revisions (get_or revisions i d).path ≡ Some (Plain (get_or revisions i d).state)
   here d = shown_at revisions i (get_or revisions i d).path (get_or revisions i d) distinct (at_place revisions i lt d)

@@ -80,7 +80,8 @@ indexed_forked m n ss set_to t p k same_paths tp place indexed entered =
     (subst (λ v. IsEntered m n v k) (sym tp) entered)))
 
 -- one more revision of a list
-pub indexed_more : {L : Type 0} (m n : BTreeMap Key ℕ) (ss : List (RevisionRow L)) (i : ℕ) (x : RevisionRow L) → i < length ss
+pub indexed_more : {L : Type 0} (m n : BTreeMap Key ℕ) (ss : List (RevisionRow L)) (i : ℕ) (x : RevisionRow L)
+    → i < length ss
     → x ≡ get_or ss i x
     → IsIndexed m (paths (take i ss)) → IsEntered m n x.path i → IsIndexed n (paths (take (i + 1) ss))
 indexed_more m n ss i x lt r indexed entered =
@@ -100,12 +101,14 @@ pub found_at : {L : Type 0} (places : BTreeMap Key ℕ) (ss : List (RevisionRow 
     → IsIndexed places (paths ss) → place_by places p ≡ Some i → IsAt ss i p
 found_at places ss p i indexed e = path_at ss i p (subst (IsPlace p (paths ss)) e (indexed p))
 
-pub not_found : {L : Type 0} (places : BTreeMap Key ℕ) (ss : List (RevisionRow L)) (p : Path) → IsIndexed places (paths ss)
+pub not_found : {L : Type 0} (places : BTreeMap Key ℕ) (ss : List (RevisionRow L)) (p : Path)
+    → IsIndexed places (paths ss)
     → place_by places p ≡ None → globe ss p ≡ None
 not_found places ss p indexed e = globe_out ss p (subst (IsPlace p (paths ss)) e (indexed p))
 
 -- what a look-up says of the list
-pub looked_up : {L : Type 0} (places : BTreeMap Key ℕ) (ss : List (RevisionRow L)) (p : Path) → IsIndexed places (paths ss)
+pub looked_up : {L : Type 0} (places : BTreeMap Key ℕ) (ss : List (RevisionRow L)) (p : Path)
+    → IsIndexed places (paths ss)
     → (o : Option ℕ) → o ≡ place_by places p → MatchOption o (globe ss p ≡ None) (λ i. IsAt ss i p)
 looked_up places ss p indexed None e = not_found places ss p indexed (sym e)
 looked_up places ss p indexed (Some i) e = found_at places ss p i indexed (sym e)

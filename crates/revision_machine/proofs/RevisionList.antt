@@ -40,7 +40,8 @@ module _ {L : Type 0} where
           let clash : Some (entry_of s) ≡ None = sym (ap (λ b. cond b (Some (entry_of s)) (globe ss p)) f) ∙ e in cc
       go later false f = later (sym (ap (λ b. cond b (Some (entry_of s)) (globe ss p)) f) ∙ e) is
 
-  in_paths : (ss : List (RevisionRow L)) (i : ℕ) (d : RevisionRow L) → i < length ss → IsIn (get_or ss i d).path (paths ss)
+  in_paths : (ss : List (RevisionRow L)) (i : ℕ) (d : RevisionRow L) → i < length ss
+      → IsIn (get_or ss i d).path (paths ss)
   in_paths [] i d lt = absurd (omega arith)
   in_paths (s ∷ ss) zero d lt = inl refl
   in_paths (s ∷ ss) (suc i) d lt = inr (in_paths ss i d (omega arith))
@@ -77,7 +78,8 @@ module _ {L : Type 0} where
   path_set (s ∷ ss) (suc i) zero d t lt lu e = refl
   path_set (s ∷ ss) (suc i) (suc j) d t lt lu e = path_set ss i j d t (omega arith) (omega arith) e
 
-  pub paths-set : (ss : List (RevisionRow L)) (i : ℕ) (d t : RevisionRow L) → i < length ss → t.path ≡ (get_or ss i d).path
+  pub paths-set : (ss : List (RevisionRow L)) (i : ℕ) (d t : RevisionRow L) → i < length ss
+      → t.path ≡ (get_or ss i d).path
       → paths (set ss i t) ≡ paths ss
   paths-set [] i d t lt is = refl
   paths-set (s ∷ ss) zero d t lt is = ap (λ v. v ∷ paths ss) is

@@ -26,7 +26,8 @@ module _ {L : Type 0} where
       → Reads revisions i x → x.path ≡ p
   read_path revisions i p x at r = ap (λ v. v.path) r ∙ at.path x
 
-  pub set_back : (revisions : List (RevisionRow L)) (i : ℕ) (x : RevisionRow L) (l : L) → Reads revisions i x → l ≡ x.state
+  pub set_back : (revisions : List (RevisionRow L)) (i : ℕ) (x : RevisionRow L) (l : L) → Reads revisions i x
+      → l ≡ x.state
       → set revisions i (with_state x l) ≡ revisions
   set_back revisions i x l r e =
       ap (λ v. set revisions i (with_state x v)) e ∙ ap (set revisions i) r ∙ set-get_or revisions i x
@@ -37,7 +38,8 @@ module _ {L : Type 0} where
       subst IsDistinct (sym (paths-set revisions i x t lt (e ∙ ap (λ v. v.path) r))) d
 
   -- one revision with its state or mark changed
-  pub shown_set : (revisions : List (RevisionRow L)) (i : ℕ) (p : Path) (x t : RevisionRow L) → IsDistinct (paths revisions)
+  pub shown_set : (revisions : List (RevisionRow L)) (i : ℕ) (p : Path) (x t : RevisionRow L)
+      → IsDistinct (paths revisions)
       → IsAt revisions i p → Reads revisions i x → t.path ≡ x.path
       → globe (set revisions i t) ≡ with_at (globe revisions) p (entry_of t)
   shown_set revisions i p x t d at r e =
@@ -45,7 +47,8 @@ module _ {L : Type 0} where
       ∙ ap (λ v. with_at (globe revisions) v (entry_of t)) (e ∙ read_path revisions i p x at r)
 
   -- what stands there
-  pub shown_at : (revisions : List (RevisionRow L)) (i : ℕ) (p : Path) (x : RevisionRow L) → IsDistinct (paths revisions)
+  pub shown_at : (revisions : List (RevisionRow L)) (i : ℕ) (p : Path) (x : RevisionRow L)
+      → IsDistinct (paths revisions)
       → IsAt revisions i p → Reads revisions i x → globe revisions p ≡ Some (entry_of x)
   shown_at revisions i p x d at r =
       ap (globe revisions) (sym (at.path x)) ∙ globe_at revisions i x d at.within ∙ ap (λ v. Some (entry_of v)) (sym r)
@@ -80,7 +83,8 @@ module _ (M : Machine) (revisions : List (RevisionRow M.Local)) (i : ℕ) (p : P
         (fresh_of M (globe revisions) forked p x.state
         (shown_at revisions i p x distinct at r ∙ ap (λ b. Some (entry_with b x.state)) e))
 
-    pub distinct_forked : x.joined ≡ false → (l : M.Local) (t : RevisionRow M.Local) → t.path ≡ child p (M.forks x.state)
+    pub distinct_forked : x.joined ≡ false → (l : M.Local) (t : RevisionRow M.Local)
+        → t.path ≡ child p (M.forks x.state)
         → IsDistinct (paths (set revisions i (with_state x l) ++ t ∷ []))
     distinct_forked e l t f =
         let ps : paths (set revisions i (with_state x l)) ≡ paths revisions =

@@ -24,7 +24,8 @@ module _ (M : Machine) where
   -- a run, and the children that it forks, in their order
   abbrev pub RunsBearing : Global M.Local → List Path → Global M.Local → List Path → Type 0
   RunsBearing g [] h cs = (g ≡ h) × (cs ≡ [])
-  RunsBearing g (r ∷ rs) h cs = (m : Global M.Local) × (step M g r ≡ Some m) × (ds : List Path) × (cs ≡ offspring g r ++ ds) × RunsBearing m rs h ds
+  RunsBearing g (r ∷ rs) h cs = (m : Global M.Local) × (step M g r ≡ Some m) × (ds : List Path)
+      × (cs ≡ offspring g r ++ ds) × RunsBearing m rs h ds
 
 abbrev pub AllKnown : (Path → Type 0) → List Path → Type 0
 AllKnown Known cs = (c : Path) → IsIn c cs → Known c

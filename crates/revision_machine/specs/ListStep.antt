@@ -58,4 +58,5 @@ module _ {L : Type 0} (rules : Rules L) where
   -- the list after the join, read with any default
   abbrev pub AfterJoin : List (RevisionRow L) → ℕ → ℕ → List (RevisionRow L) → Type 0
   AfterJoin list i j new =
-      (d : RevisionRow L) → new ≡ set (set list i (meet rules (get_or list i d) (get_or list j d))) j (with_mark (get_or list j d))
+      (d : RevisionRow L) → new
+      ≡ set (set list i (meet rules (get_or list i d) (get_or list j d))) j (with_mark (get_or list j d))

@@ -39,20 +39,24 @@ put_number (x ∷ xs) zero y = y ∷ xs
 put_number (x ∷ xs) (suc n) y = x ∷ put_number xs n y
 
 module _ (N : Numbered) where
-  abbrev pub join_stopped : Entries N.Local → ℕ → Path → N.Local → ℕ → Path → N.Local → Wish N.Local → Option (World N.Local)
-  join_stopped w n r l m q lq Stops = Some (Listing (put_number (put_number w n (r, Plain (N.join l m lq))) m (q, Joined lq)))
+  abbrev pub join_stopped : Entries N.Local → ℕ → Path → N.Local → ℕ → Path → N.Local → Wish N.Local
+      → Option (World N.Local)
+  join_stopped w n r l m q lq Stops =
+      Some (Listing (put_number (put_number w n (r, Plain (N.join l m lq))) m (q, Joined lq)))
   join_stopped w n r l m q lq (Goes _) = None
   join_stopped w n r l m q lq (Bears _ _) = None
   join_stopped w n r l m q lq (Wants _) = None
 
-  abbrev pub join_number : Entries N.Local → ℕ → Path → N.Local → ℕ → Option (Path × Entry N.Local) → Option (World N.Local)
+  abbrev pub join_number : Entries N.Local → ℕ → Path → N.Local → ℕ → Option (Path × Entry N.Local)
+      → Option (World N.Local)
   join_number w n r l m None = None
   join_number w n r l m (Some (q, Joined lq)) = Some Both
   join_number w n r l m (Some (q, Plain lq)) = join_stopped w n r l m q lq (N.next lq)
 
   abbrev pub leg_of : Entries N.Local → ℕ → Path → N.Local → Wish N.Local → Option (World N.Local)
   leg_of w n r l (Goes l') = Some (Listing (put_number w n (r, Plain l')))
-  leg_of w n r l (Bears f c) = Some (Listing (put_number w n (r, Plain (f (length w))) ++ (child r (N.forks l), Plain c) ∷ []))
+  leg_of w n r l (Bears f c) =
+      Some (Listing (put_number w n (r, Plain (f (length w))) ++ (child r (N.forks l), Plain c) ∷ []))
   leg_of w n r l (Wants m) = join_number w n r l m (at_number w m)
   leg_of w n r l Stops = None
 
@@ -128,7 +132,8 @@ module _ (N : Numbered) (main : N.Local) where
     pub distinct : IsDistinct paths
     pub children : List Path
     pub are : paths ≡ [] ∷ children
-    pub run : (t rest : List Path) → IsDistinct t → t ≡ paths ++ rest → RunsBearing (machine_by N t) (start (machine_by N t) main) (paths_at t ns) (shows w) children
+    pub run : (t rest : List Path) → IsDistinct t → t ≡ paths ++ rest
+        → RunsBearing (machine_by N t) (start (machine_by N t) main) (paths_at t ns) (shows w) children
 
   -- the paths are those of the world; of Both, which has none, nothing is said
   abbrev pub HasPaths : World N.Local → List Path → Type 0
@@ -144,7 +149,8 @@ module _ (N : Numbered) (main : N.Local) where
   -- a run by paths, whose table has the children in the order of their forks, is a legal schedule of numbers
   abbrev pub RunIsSchedule : Type 0
   RunIsSchedule =
-      (t rest cs rs : List Path) (h : Global N.Local) → IsDistinct t → t ≡ ([] ∷ cs) ++ rest → RunsBearing (machine_by N t) (start (machine_by N t) main) rs h cs
+      (t rest cs rs : List Path) (h : Global N.Local) → IsDistinct t → t ≡ ([] ∷ cs) ++ rest
+      → RunsBearing (machine_by N t) (start (machine_by N t) main) rs h cs
       → (ns : List ℕ) × (w : World N.Local) × Replays N (begin N main) ns w × (shows w ≡ h) × (paths_at t ns ≡ rs)
 
   -- no number has a leg
@@ -154,7 +160,8 @@ module _ (N : Numbered) (main : N.Local) where
   -- no number has a leg exactly where the state is final
   abbrev pub OverLaw : Type 0
   OverLaw =
-      (ns : List ℕ) (w : World N.Local) → Replays N (begin N main) ns w → (t rest paths : List Path) → HasPaths w paths → IsDistinct t → t ≡ paths ++ rest
+      (ns : List ℕ) (w : World N.Local) → Replays N (begin N main) ns w → (t rest paths : List Path) → HasPaths w paths
+      → IsDistinct t → t ≡ paths ++ rest
       → IsOver w ↔ Final (machine_by N t) (shows w)
 
   -- each revision of the world has ended, with or without the mark

@@ -1,6 +1,7 @@
 -- Where in a list of paths each of them stands.
 --
--- `place_by` is what a map from paths finds; `IsIndexed` says that a map has the place of each path of a list, and of no
+-- `place_by` is what a map from paths finds; `IsIndexed` says that a map has the place of each path
+-- of a list, and of no
 -- other.
 use Rattle.std.specs.declared.alloc.Global.{Global}
 use Rattle.std.specs.Prelude.{◌≡◌, ℕ, Vec, List, Option, Some, None, slice_get}

@@ -6,7 +6,8 @@ use Rattle.revision_machine.specs.Laws.{AllEnded, IsDistinct}
 use Rattle.revision_machine.specs.Simulation.{Agrees}
 use Rattle.revision_machine.specs.Numbered.{Numbered, World, at_number, leg, machine_by, shows, begin, Replays, HasPaths, IsOver, AllStop}
 
-module _ (A : Machine) (N : Numbered) (R : List Path → Path → A.Local → N.Local → Type 0) (a : A.Local) (main : N.Local) where
+module _ (A : Machine) (N : Numbered) (R : List Path → Path → A.Local → N.Local → Type 0) (a : A.Local)
+    (main : N.Local) where
   -- by the table of the world's own paths, each once, the world agrees with a state that a run of A reaches; Both does
   -- by some table
   pub record Matches (w : World N.Local) : Type 0 where
@@ -22,7 +23,8 @@ module _ (A : Machine) (N : Numbered) (R : List Path → Path → A.Local → N.
   abbrev pub ScheduleAgrees : Type 0
   ScheduleAgrees = (ns : List ℕ) (w : World N.Local) → Replays N (begin N main) ns w → Matches w
 
-  -- by this table, each leg from v to w is some number of steps of the revision with its number's path, from g to h, and
+  -- by this table, each leg from v to w is some number of steps of the revision with its number's
+  -- path, from g to h, and
   -- of no other; and after each the world agrees with the state
   abbrev pub LegsAgree : List Path → Global A.Local → World N.Local → List ℕ → Global A.Local → World N.Local → Type 0
   LegsAgree t g v [] h w = (g ≡ h) × (v ≡ w)
@@ -37,7 +39,8 @@ module _ (A : Machine) (N : Numbered) (R : List Path → Path → A.Local → N.
     pub own : HasPaths N main w paths
     pub distinct : IsDistinct paths
     -- by any table that begins with the paths
-    pub legs : (t rest : List Path) → IsDistinct t → t ≡ paths ++ rest → (h : Global A.Local) × LegsAgree t (start A a) (begin N main) ns h w
+    pub legs : (t rest : List Path) → IsDistinct t → t ≡ paths ++ rest → (h : Global A.Local)
+        × LegsAgree t (start A a) (begin N main) ns h w
 
   -- each leg of a legal schedule is some number of steps of the revision with its number's path
   abbrev pub LegLaw : Type 0

@@ -31,12 +31,15 @@ module _ (A B : Machine) (R : Path → A.Local → B.Local → Type 0) where
     pub before : A.Local
     pub quiet : Quiet A r a before
     pub joins : A.next r before ≡ Joins q
-    pub related : (x : A.Local) (y : B.Local) → R q x y → B.next q y ≡ Ended → R r (A.join r before q x) (B.join r b q y)
+    pub related : (x : A.Local) (y : B.Local) → R q x y → B.next q y ≡ Ended
+        → R r (A.join r before q x) (B.join r b q y)
 
-  -- whatever a state of B does next, a related state of A does, after some local steps; a fork, where its child is known
+  -- whatever a state of B does next, a related state of A does, after some local steps; a fork,
+  -- where its child is known
   pub record Simulates (Known : Path → Type 0) : Type 0 where
     pub moves : (r : Path) (a : A.Local) (b b' : B.Local) → R r a b → B.next r b ≡ Moves b' → DoesMove r a b'
-    pub forks : (r : Path) (a : A.Local) (b b' c : B.Local) → R r a b → B.next r b ≡ Forks b' c → Known (child r (B.forks b)) → DoesFork r a b b' c
+    pub forks : (r : Path) (a : A.Local) (b b' c : B.Local) → R r a b → B.next r b ≡ Forks b' c
+        → Known (child r (B.forks b)) → DoesFork r a b b' c
     pub joins : (r q : Path) (a : A.Local) (b : B.Local) → R r a b → B.next r b ≡ Joins q → DoesJoin r q a b
     pub ends : (r : Path) (a : A.Local) (b : B.Local) → R r a b → B.next r b ≡ Ended → A.next r a ≡ Ended
 
@@ -68,7 +71,8 @@ module _ (A B : Machine) (R : Path → A.Local → B.Local → Type 0) where
       (g : Global A.Local) (w w' : Global B.Local) (r : Path) → Agrees g w → step B w r ≡ Some w'
       → AllKnown Known (offspring B w r) → StepsTo r g w'
 
-module _ (A B : Machine) (R : Path → A.Local → B.Local → Type 0) (Known : Path → Type 0) (a : A.Local) (b : B.Local) where
+module _ (A B : Machine) (R : Path → A.Local → B.Local → Type 0) (Known : Path → Type 0) (a : A.Local)
+    (b : B.Local) where
   -- each run of B whose children are known agrees with a run of A
   abbrev pub RunLaw : Type 0
   RunLaw =

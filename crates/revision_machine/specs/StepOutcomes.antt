@@ -58,7 +58,8 @@ module _ (M : Machine) where
     pub no_such : IsMissing g r → answer ≡ outcome.NoSuch
 
   -- a run leads to the state from a first revision that holds no handle, with an amount that is within the limit
-  pub record IsReached (holds : M.Local → Path → Type 0) (amount : M.Local → ℕ) (limit : ℕ) (g : Global M.Local) : Type 0 where
+  pub record IsReached (holds : M.Local → Path → Type 0) (amount : M.Local → ℕ) (limit : ℕ) (g : Global M.Local) : Type
+      0 where
     pub main : M.Local
     pub none : HoldsNone M holds main
     pub room : amount main ≤ limit

@@ -27,7 +27,8 @@ module _ (M : Machine) where
   IsNoPair g p q = (p ≡ q) ⊎ ((step M g p ≡ None) ⊎ (step M g q ≡ None))
 
   abbrev pub TellsOrders : BothOrders M.Local → Global M.Local → Path → Path → Type 0
-  TellsOrders (two.Same left right) g p q = BothLead g p q (global_of left) × (global_of left ≢ Twice) × (global_of left ≡ global_of right)
+  TellsOrders (two.Same left right) g p q =
+      BothLead g p q (global_of left) × (global_of left ≢ Twice) × (global_of left ≡ global_of right)
   TellsOrders two.Twice g p q = BothLead g p q Twice
   TellsOrders two.NoPair g p q = IsNoPair g p q
 

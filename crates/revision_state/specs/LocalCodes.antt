@@ -26,7 +26,8 @@ coded_binding = coded× coded_name value.the_row.coded
 
 abbrev pub coded_frame : Coded Frame
 coded_frame =
-    code_by (Table Value × (Statements × Option Name)) (coded× (coded_list coded_binding) (coded× coded_statements (coded_option coded_name)))
+    code_by (Table Value × (Statements × Option Name))
+    (coded× (coded_list coded_binding) (coded× coded_statements (coded_option coded_name)))
     (λ f. (f.locals, (f.rest, f.left)))
     (λ p. record { locals = p.0; rest = p.1.0; left = p.1.1 })
     (λ _. refl)
@@ -52,7 +53,8 @@ noted_again (forked q line) = refl
 noted_again (joined q line) = refl
 
 abbrev coded_noted : Coded Noted
-coded_noted = code_by NotedCases (coded⊎ (coded× coded_path coded_ℕ) (coded× coded_path coded_ℕ)) noted_cases noted_of noted_again
+coded_noted = code_by NotedCases (coded⊎ (coded× coded_path coded_ℕ) (coded× coded_path coded_ℕ)) noted_cases noted_of
+    noted_again
 
 abbrev PhaseCases : Type 0
 PhaseCases = (Unit {0} ⊎ Unit {0}) ⊎ ((Path × Option Name) ⊎ Trap)
@@ -77,14 +79,18 @@ phase_again (trapped t) = refl
 
 abbrev coded_phase : Coded Phase
 coded_phase =
-    code_by PhaseCases (coded⊎ (coded⊎ coded_unit coded_unit) (coded⊎ (coded× coded_path (coded_option coded_name)) trap.the_row.coded)) phase_cases phase_of phase_again
+    code_by PhaseCases (coded⊎ (coded⊎ coded_unit coded_unit)
+    (coded⊎ (coded× coded_path (coded_option coded_name)) trap.the_row.coded)) phase_cases phase_of phase_again
 
 -- ---- local states
 
 abbrev pub coded_local : Coded Local
 coded_local =
     code_by (List Location × (List Frame × (ℕ × (ℕ × (List Noted × (List ℕ × (ℕ × Phase)))))))
-    (coded× (coded_list coded_location) (coded× (coded_list coded_frame) (coded× coded_ℕ (coded× coded_ℕ (coded× (coded_list coded_noted) (coded× (coded_list coded_ℕ) (coded× coded_ℕ coded_phase)))))))
+    (coded× (coded_list coded_location)
+    (coded× (coded_list coded_frame)
+    (coded× coded_ℕ (coded× coded_ℕ
+    (coded× (coded_list coded_noted) (coded× (coded_list coded_ℕ) (coded× coded_ℕ coded_phase)))))))
     (λ l. (l.locations, (l.frames, (l.fuel, (l.forks, (l.noted, (l.text, (l.line, l.phase))))))))
     (λ p. record {
       locations = p.0;

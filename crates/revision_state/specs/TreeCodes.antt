@@ -73,36 +73,51 @@ mutual
 
   pub links_code : Links → Gv
   links_code no_links = gcons (gnum 0) gnil
-  links_code (link a b c) = gcons (gnum 1) (gcons (binary_op.the_row.coded.code a) (gcons (expression_code b) (links_code c)))
+  links_code (link a b c) =
+      gcons (gnum 1) (gcons (binary_op.the_row.coded.code a) (gcons (expression_code b) (links_code c)))
 
 mutual
   unfolding expression_code form_code expressions_code links_code
 
   pub expression_inj : (x y : Expression) → expression_code x ≡ expression_code y → x ≡ y
-  expression_inj (placed a b) (placed a' b') p = λ i. placed (number (head (p i))) (form_inj b b' (ap (λ (g : Gv). tail g) p) i)
+  expression_inj (placed a b) (placed a' b') p =
+      λ i. placed (number (head (p i))) (form_inj b b' (ap (λ (g : Gv). tail g) p) i)
 
   pub form_inj : (x y : ExpressionForm) → form_code x ≡ form_code y → x ≡ y
   form_inj (int a) (int a') p = λ i. int (coded_ℤ.inj a a' (ap (λ (g : Gv). tail g) p) i)
   form_inj (bool a) (bool a') p = λ i. bool (coded_bool.inj a a' (ap (λ (g : Gv). tail g) p) i)
   form_inj no_rev no_rev p = λ i. no_rev
   form_inj (var a) (var a') p = λ i. var (name_inj a a' (ap (λ (g : Gv). tail g) p) i)
-  form_inj (cell a b) (cell a' b') p = λ i. cell (name_inj a a' (ap (λ (g : Gv). head (tail g)) p) i) (expression_inj b b' (ap (λ (g : Gv). tail (tail g)) p) i)
-  form_inj (apply a b) (apply a' b') p = λ i. apply (name_inj a a' (ap (λ (g : Gv). head (tail g)) p) i) (expressions_inj b b' (ap (λ (g : Gv). tail (tail g)) p) i)
-  form_inj (input a b) (input a' b') p = λ i. input (number (head (tail (p i)))) (expression_inj b b' (ap (λ (g : Gv). tail (tail g)) p) i)
+  form_inj (cell a b) (cell a' b') p = λ i. cell (name_inj a a' (ap (λ (g : Gv). head (tail g)) p) i)
+      (expression_inj b b' (ap (λ (g : Gv). tail (tail g)) p) i)
+  form_inj (apply a b) (apply a' b') p = λ i. apply (name_inj a a' (ap (λ (g : Gv). head (tail g)) p) i)
+      (expressions_inj b b' (ap (λ (g : Gv). tail (tail g)) p) i)
+  form_inj (input a b) (input a' b') p =
+      λ i. input (number (head (tail (p i)))) (expression_inj b b' (ap (λ (g : Gv). tail (tail g)) p) i)
   form_inj (inputs a) (inputs a') p = λ i. inputs (number (tail (p i)))
-  form_inj (pick a b c) (pick a' b' c') p = λ i. pick (expression_inj a a' (ap (λ (g : Gv). head (tail g)) p) i) (expression_inj b b' (ap (λ (g : Gv). head (tail (tail g))) p) i) (expression_inj c c' (ap (λ (g : Gv). tail (tail (tail g))) p) i)
-  form_inj (unary a b) (unary a' b') p = λ i. unary (unary_op.the_row.coded.inj a a' (ap (λ (g : Gv). head (tail g)) p) i) (expression_inj b b' (ap (λ (g : Gv). tail (tail g)) p) i)
-  form_inj (chain a b) (chain a' b') p = λ i. chain (expression_inj a a' (ap (λ (g : Gv). head (tail g)) p) i) (links_inj b b' (ap (λ (g : Gv). tail (tail g)) p) i)
+  form_inj (pick a b c) (pick a' b' c') p = λ i. pick (expression_inj a a' (ap (λ (g : Gv). head (tail g)) p) i)
+      (expression_inj b b' (ap (λ (g : Gv). head (tail (tail g))) p) i)
+      (expression_inj c c' (ap (λ (g : Gv). tail (tail (tail g))) p) i)
+  form_inj (unary a b) (unary a' b') p = λ i. unary
+      (unary_op.the_row.coded.inj a a' (ap (λ (g : Gv). head (tail g)) p) i)
+      (expression_inj b b' (ap (λ (g : Gv). tail (tail g)) p) i)
+  form_inj (chain a b) (chain a' b') p = λ i. chain (expression_inj a a' (ap (λ (g : Gv). head (tail g)) p) i)
+      (links_inj b b' (ap (λ (g : Gv). tail (tail g)) p) i)
   form_inj x y p = absurd (apart (form_code x) (form_code y) p refl)
 
   pub expressions_inj : (x y : Expressions) → expressions_code x ≡ expressions_code y → x ≡ y
   expressions_inj no_expressions no_expressions p = λ i. no_expressions
-  expressions_inj (expression a b) (expression a' b') p = λ i. expression (expression_inj a a' (ap (λ (g : Gv). head (tail g)) p) i) (expressions_inj b b' (ap (λ (g : Gv). tail (tail g)) p) i)
+  expressions_inj (expression a b) (expression a' b') p = λ i. expression
+      (expression_inj a a' (ap (λ (g : Gv). head (tail g)) p) i)
+      (expressions_inj b b' (ap (λ (g : Gv). tail (tail g)) p) i)
   expressions_inj x y p = absurd (apart (expressions_code x) (expressions_code y) p refl)
 
   pub links_inj : (x y : Links) → links_code x ≡ links_code y → x ≡ y
   links_inj no_links no_links p = λ i. no_links
-  links_inj (link a b c) (link a' b' c') p = λ i. link (binary_op.the_row.coded.inj a a' (ap (λ (g : Gv). head (tail g)) p) i) (expression_inj b b' (ap (λ (g : Gv). head (tail (tail g))) p) i) (links_inj c c' (ap (λ (g : Gv). tail (tail (tail g))) p) i)
+  links_inj (link a b c) (link a' b' c') p = λ i. link
+      (binary_op.the_row.coded.inj a a' (ap (λ (g : Gv). head (tail g)) p) i)
+      (expression_inj b b' (ap (λ (g : Gv). head (tail (tail g))) p) i)
+      (links_inj c c' (ap (λ (g : Gv). tail (tail (tail g))) p) i)
   links_inj x y p = absurd (apart (links_code x) (links_code y) p refl)
 
 abbrev pub coded_expression : Coded Expression
@@ -119,9 +134,14 @@ right_code (tried a b) = gcons (gnum 3) (gcons (gnum a) (expression_code b))
 pub right_inj : (x y : RightSide) → right_code x ≡ right_code y → x ≡ y
 unfolding right_code
 right_inj (plain a) (plain a') p = λ i. plain (expression_inj a a' (ap (λ (g : Gv). tail g) p) i)
-right_inj (called a b c) (called a' b' c') p = λ i. called (number (head (tail (p i)))) (name_inj b b' (ap (λ (g : Gv). head (tail (tail g))) p) i) (expressions_inj c c' (ap (λ (g : Gv). tail (tail (tail g))) p) i)
-right_inj (forked a b c) (forked a' b' c') p = λ i. forked (number (head (tail (p i)))) (name_inj b b' (ap (λ (g : Gv). head (tail (tail g))) p) i) (expressions_inj c c' (ap (λ (g : Gv). tail (tail (tail g))) p) i)
-right_inj (tried a b) (tried a' b') p = λ i. tried (number (head (tail (p i)))) (expression_inj b b' (ap (λ (g : Gv). tail (tail g)) p) i)
+right_inj (called a b c) (called a' b' c') p = λ i. called (number (head (tail (p i))))
+    (name_inj b b' (ap (λ (g : Gv). head (tail (tail g))) p) i)
+    (expressions_inj c c' (ap (λ (g : Gv). tail (tail (tail g))) p) i)
+right_inj (forked a b c) (forked a' b' c') p = λ i. forked (number (head (tail (p i))))
+    (name_inj b b' (ap (λ (g : Gv). head (tail (tail g))) p) i)
+    (expressions_inj c c' (ap (λ (g : Gv). tail (tail (tail g))) p) i)
+right_inj (tried a b) (tried a' b') p =
+    λ i. tried (number (head (tail (p i)))) (expression_inj b b' (ap (λ (g : Gv). tail (tail g)) p) i)
 right_inj x y p = absurd (apart (right_code x) (right_code y) p refl)
 
 pub print_item_code : PrintItem → Gv
@@ -130,7 +150,8 @@ print_item_code (shown a) = gcons (gnum 1) (expression_code a)
 
 pub print_item_inj : (x y : PrintItem) → print_item_code x ≡ print_item_code y → x ≡ y
 unfolding print_item_code
-print_item_inj (text a b) (text a' b') p = λ i. text (number (head (tail (p i)))) (coded_name.inj b b' (ap (λ (g : Gv). tail (tail g)) p) i)
+print_item_inj (text a b) (text a' b') p =
+    λ i. text (number (head (tail (p i)))) (coded_name.inj b b' (ap (λ (g : Gv). tail (tail g)) p) i)
 print_item_inj (shown a) (shown a') p = λ i. shown (expression_inj a a' (ap (λ (g : Gv). tail g) p) i)
 print_item_inj x y p = absurd (apart (print_item_code x) (print_item_code y) p refl)
 
@@ -144,7 +165,8 @@ mutual
   pub statement_form_code : StatementForm → Gv
   statement_form_code (bind a b) = gcons (gnum 0) (gcons (name_code a) (right_code b))
   statement_form_code (assign a b) = gcons (gnum 1) (gcons (name_code a) (right_code b))
-  statement_form_code (assign_cell a b c) = gcons (gnum 2) (gcons (name_code a) (gcons (expression_code b) (expression_code c)))
+  statement_form_code (assign_cell a b c) =
+      gcons (gnum 2) (gcons (name_code a) (gcons (expression_code b) (expression_code c)))
   statement_form_code (choose a) = gcons (gnum 3) (arms_code a)
   statement_form_code (choose_or a b) = gcons (gnum 4) (gcons (arms_code a) (statements_code b))
   statement_form_code (repeat a b) = gcons (gnum 5) (gcons (expression_code a) (statements_code b))
@@ -167,31 +189,48 @@ mutual
   unfolding statement_code statement_form_code statements_code arms_code
 
   pub statement_inj : (x y : Statement) → statement_code x ≡ statement_code y → x ≡ y
-  statement_inj (statement a b c) (statement a' b' c') p = λ i. statement (number (head (p i))) (number (head (tail (p i)))) (statement_form_inj c c' (ap (λ (g : Gv). tail (tail g)) p) i)
+  statement_inj (statement a b c) (statement a' b' c') p = λ i. statement (number (head (p i)))
+      (number (head (tail (p i)))) (statement_form_inj c c' (ap (λ (g : Gv). tail (tail g)) p) i)
 
   pub statement_form_inj : (x y : StatementForm) → statement_form_code x ≡ statement_form_code y → x ≡ y
-  statement_form_inj (bind a b) (bind a' b') p = λ i. bind (name_inj a a' (ap (λ (g : Gv). head (tail g)) p) i) (right_inj b b' (ap (λ (g : Gv). tail (tail g)) p) i)
-  statement_form_inj (assign a b) (assign a' b') p = λ i. assign (name_inj a a' (ap (λ (g : Gv). head (tail g)) p) i) (right_inj b b' (ap (λ (g : Gv). tail (tail g)) p) i)
-  statement_form_inj (assign_cell a b c) (assign_cell a' b' c') p = λ i. assign_cell (name_inj a a' (ap (λ (g : Gv). head (tail g)) p) i) (expression_inj b b' (ap (λ (g : Gv). head (tail (tail g))) p) i) (expression_inj c c' (ap (λ (g : Gv). tail (tail (tail g))) p) i)
+  statement_form_inj (bind a b) (bind a' b') p = λ i. bind (name_inj a a' (ap (λ (g : Gv). head (tail g)) p) i)
+      (right_inj b b' (ap (λ (g : Gv). tail (tail g)) p) i)
+  statement_form_inj (assign a b) (assign a' b') p = λ i. assign (name_inj a a' (ap (λ (g : Gv). head (tail g)) p) i)
+      (right_inj b b' (ap (λ (g : Gv). tail (tail g)) p) i)
+  statement_form_inj (assign_cell a b c) (assign_cell a' b' c') p = λ i. assign_cell
+      (name_inj a a' (ap (λ (g : Gv). head (tail g)) p) i)
+      (expression_inj b b' (ap (λ (g : Gv). head (tail (tail g))) p) i)
+      (expression_inj c c' (ap (λ (g : Gv). tail (tail (tail g))) p) i)
   statement_form_inj (choose a) (choose a') p = λ i. choose (arms_inj a a' (ap (λ (g : Gv). tail g) p) i)
-  statement_form_inj (choose_or a b) (choose_or a' b') p = λ i. choose_or (arms_inj a a' (ap (λ (g : Gv). head (tail g)) p) i) (statements_inj b b' (ap (λ (g : Gv). tail (tail g)) p) i)
-  statement_form_inj (repeat a b) (repeat a' b') p = λ i. repeat (expression_inj a a' (ap (λ (g : Gv). head (tail g)) p) i) (statements_inj b b' (ap (λ (g : Gv). tail (tail g)) p) i)
-  statement_form_inj (call a b) (call a' b') p = λ i. call (name_inj a a' (ap (λ (g : Gv). head (tail g)) p) i) (expressions_inj b b' (ap (λ (g : Gv). tail (tail g)) p) i)
-  statement_form_inj (return a) (return a') p = λ i. return ((coded_option coded_expression).inj a a' (ap (λ (g : Gv). tail g) p) i)
-  statement_form_inj (fork a b) (fork a' b') p = λ i. fork (name_inj a a' (ap (λ (g : Gv). head (tail g)) p) i) (expressions_inj b b' (ap (λ (g : Gv). tail (tail g)) p) i)
+  statement_form_inj (choose_or a b) (choose_or a' b') p = λ i. choose_or
+      (arms_inj a a' (ap (λ (g : Gv). head (tail g)) p) i) (statements_inj b b' (ap (λ (g : Gv). tail (tail g)) p) i)
+  statement_form_inj (repeat a b) (repeat a' b') p = λ i. repeat
+      (expression_inj a a' (ap (λ (g : Gv). head (tail g)) p) i)
+      (statements_inj b b' (ap (λ (g : Gv). tail (tail g)) p) i)
+  statement_form_inj (call a b) (call a' b') p = λ i. call (name_inj a a' (ap (λ (g : Gv). head (tail g)) p) i)
+      (expressions_inj b b' (ap (λ (g : Gv). tail (tail g)) p) i)
+  statement_form_inj (return a) (return a') p =
+      λ i. return ((coded_option coded_expression).inj a a' (ap (λ (g : Gv). tail g) p) i)
+  statement_form_inj (fork a b) (fork a' b') p = λ i. fork (name_inj a a' (ap (λ (g : Gv). head (tail g)) p) i)
+      (expressions_inj b b' (ap (λ (g : Gv). tail (tail g)) p) i)
   statement_form_inj (join a) (join a') p = λ i. join (expression_inj a a' (ap (λ (g : Gv). tail g) p) i)
-  statement_form_inj (print a) (print a') p = λ i. print ((coded_list coded_print_item).inj a a' (ap (λ (g : Gv). tail g) p) i)
+  statement_form_inj (print a) (print a') p =
+      λ i. print ((coded_list coded_print_item).inj a a' (ap (λ (g : Gv). tail g) p) i)
   statement_form_inj (assert a) (assert a') p = λ i. assert (expression_inj a a' (ap (λ (g : Gv). tail g) p) i)
   statement_form_inj x y p = absurd (apart (statement_form_code x) (statement_form_code y) p refl)
 
   pub statements_inj : (x y : Statements) → statements_code x ≡ statements_code y → x ≡ y
   statements_inj no_statements no_statements p = λ i. no_statements
-  statements_inj (statements a b) (statements a' b') p = λ i. statements (statement_inj a a' (ap (λ (g : Gv). head (tail g)) p) i) (statements_inj b b' (ap (λ (g : Gv). tail (tail g)) p) i)
+  statements_inj (statements a b) (statements a' b') p = λ i. statements
+      (statement_inj a a' (ap (λ (g : Gv). head (tail g)) p) i)
+      (statements_inj b b' (ap (λ (g : Gv). tail (tail g)) p) i)
   statements_inj x y p = absurd (apart (statements_code x) (statements_code y) p refl)
 
   pub arms_inj : (x y : Arms) → arms_code x ≡ arms_code y → x ≡ y
   arms_inj no_arms no_arms p = λ i. no_arms
-  arms_inj (arm a b c) (arm a' b' c') p = λ i. arm (expression_inj a a' (ap (λ (g : Gv). head (tail g)) p) i) (statements_inj b b' (ap (λ (g : Gv). head (tail (tail g))) p) i) (arms_inj c c' (ap (λ (g : Gv). tail (tail (tail g))) p) i)
+  arms_inj (arm a b c) (arm a' b' c') p = λ i. arm (expression_inj a a' (ap (λ (g : Gv). head (tail g)) p) i)
+      (statements_inj b b' (ap (λ (g : Gv). head (tail (tail g))) p) i)
+      (arms_inj c c' (ap (λ (g : Gv). tail (tail (tail g))) p) i)
   arms_inj x y p = absurd (apart (arms_code x) (arms_code y) p refl)
 
 abbrev pub coded_statements : Coded Statements

@@ -19,7 +19,8 @@ own_event (Forked child) l = Forks l child
 abbrev pub paid : Setting → Path → state.Local → Statement → ℕ → Event state.Local
 paid s r l (statement at line form) zero =
     traps r (record (enter (statements (statement at line form) no_statements) l) { line = line }) cause.Spent
-paid s r l (statement at line form) (suc fuel) = does s r (record l { fuel = fuel; line = line }) (statement at line form)
+paid s r l (statement at line form) (suc fuel) =
+    does s r (record l { fuel = fuel; line = line }) (statement at line form)
 
 -- what this statement does, which was taken out of the frame on top
 abbrev pub begun : Setting → Path → state.Local → Statement → Event state.Local

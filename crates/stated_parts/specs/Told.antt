@@ -33,13 +33,15 @@ written_in (o ∷ os) = with_written o (written_in os)
 -- the slots of these changes, or none where they do not fit
 abbrev pub AreSlots : Setting → List Change → Option (List (Option AloneWrite)) → Type 0
 AreSlots s cs None = changes_fit (places s) (location_kinds s) cs ≡ false
-AreSlots s cs (Some slots) = (changes_fit (places s) (location_kinds s) cs ≡ true) × (slots ≡ slots_from 0 (places s) cs)
+AreSlots s cs (Some slots) =
+    (changes_fit (places s) (location_kinds s) cs ≡ true) × (slots ≡ slots_from 0 (places s) cs)
 
 -- the change of this number, with those behind it: it fits if they do, and has its slot, or it does not fit
 abbrev pub Enters : Setting → List Change → ℕ → List (Option AloneWrite) → Bool → Type 0
 Enters s cs j slots false = changes_fit (places s) (location_kinds s) (drop j cs) ≡ false
 Enters s cs j slots true =
-    (changes_fit (places s) (location_kinds s) (drop j cs) ≡ changes_fit (places s) (location_kinds s) (drop (j + 1) cs))
+    (changes_fit (places s) (location_kinds s) (drop j cs)
+    ≡ changes_fit (places s) (location_kinds s) (drop (j + 1) cs))
     × (slots ≡ slots_from 0 (places s) (drop j cs))
 
 -- what is told of the end by a part, whose changes fit

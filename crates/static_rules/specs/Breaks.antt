@@ -47,18 +47,22 @@ pub data Breaks (p : ProgramTree) : TypeFault → Type 0 where
       → Stands p i form → call_of form ≡ Some (w, args) → i.names.procs w.text ≡ None → Breaks p (UnknownName w.at)
   -- a name after `by` that no merge before has
   unknown_merge : {before : List Declaration} {x : SharedDeclaration} {w : PlacedName}
-      → IsBehind before (shared x) p.declarations → x.by ≡ Some w → ((e : Declaration) → Among before e → IsMergeOf w.text e → ⊥) → Breaks p (UnknownName w.at)
+      → IsBehind before (shared x) p.declarations → x.by ≡ Some w
+      → ((e : Declaration) → Among before e → IsMergeOf w.text e → ⊥) → Breaks p (UnknownName w.at)
   -- ---- names that are declared twice
 
   -- a declaration with the name of one before
   declared_again : {before : List Declaration} (d : Declaration) {e : Declaration}
-      → IsBehind before e p.declarations → Among before d → (word_of d).text ≡ (word_of e).text → Breaks p (Redeclared (word_of e).at)
+      → IsBehind before e p.declarations → Among before d → (word_of d).text ≡ (word_of e).text
+      → Breaks p (Redeclared (word_of e).at)
   -- a parameter with the name of an earlier one of the declaration
   parameter_again : {e : Declaration} {before : List PlacedName} (v : PlacedName) {w : PlacedName}
       → Declares p e → IsBehind before w (param_words e) → Among before v → v.text ≡ w.text → Breaks p (Redeclared w.at)
   -- a procedure's parameter with the name of a shared variable
-  parameter_of_shared : {w : PlacedName} {ps : List Parameter} {r : Option ValueKind} {body : Statements} (q : Parameter)
-      → Declares p (proc w ps r body) → Among ps q → (outside p.declarations).shared q.name.text ≢ None → Breaks p (Redeclared q.name.at)
+  parameter_of_shared : {w : PlacedName} {ps : List Parameter} {r : Option ValueKind} {body : Statements}
+      (q : Parameter)
+      → Declares p (proc w ps r body) → Among ps q → (outside p.declarations).shared q.name.text ≢ None
+      → Breaks p (Redeclared q.name.at)
   -- a `let` with the name of a local in scope or of a shared variable
   let_again : {i : Site} {w : PlacedName} {x : RightSide}
       → Stands p i (bind w x) → (IsNew i.names i.locals w → ⊥) → Breaks p (Redeclared w.at)
@@ -79,7 +83,8 @@ pub data Breaks (p : ProgramTree) : TypeFault → Type 0 where
       → Declares p (shared x) → x.first ≡ Some first → kind_of first.value ≢ x.holds → Breaks p (WrongType first.at)
   -- an array without an index, or another name with one
   other_use : {c : Names} {l : Locals} {w : PlacedName} {indexed array : Bool}
-      → Uses p c l w indexed → array_named (find w.text l) (c.shared w.text) ≡ Some array → array ≢ indexed → Breaks p (WrongType w.at)
+      → Uses p c l w indexed → array_named (find w.text l) (c.shared w.text) ≡ Some array → array ≢ indexed
+      → Breaks p (WrongType w.at)
   -- a `call` behind `=` of a procedure without a result
   no_result : {i : Site} {at : ℕ} {form : StatementForm} {w : PlacedName} {args : Expressions} {f : Callee}
       → Stands p i form → right_side_of form ≡ Some (called at w args) → i.names.procs w.text ≡ Some f → f.result ≡ None
@@ -107,7 +112,8 @@ pub data Breaks (p : ProgramTree) : TypeFault → Type 0 where
 
   -- another number of arguments than parameters
   other_count : {i : Site} {form : StatementForm} {w : PlacedName} {args : Expressions} {f : Callee}
-      → Stands p i form → call_of form ≡ Some (w, args) → i.names.procs w.text ≡ Some f → length (expressions_of args) ≢ length f.params
+      → Stands p i form → call_of form ≡ Some (w, args) → i.names.procs w.text ≡ Some f
+      → length (expressions_of args) ≢ length f.params
       → Breaks p (WrongCount w.at)
   -- an array of size 0
   no_cells : {x : SharedDeclaration} {size : ArraySize}
@@ -121,28 +127,37 @@ pub data Breaks (p : ProgramTree) : TypeFault → Type 0 where
 
   -- the variable with which the cells are more than the limit for the first time
   locations : {before : List Declaration} {x : SharedDeclaration}
-      → IsBehind before (shared x) p.declarations → cells before ≤ most limits.Locations → most limits.Locations < cells before + cells_of x.size
+      → IsBehind before (shared x) p.declarations → cells before ≤ most limits.Locations
+      → most limits.Locations < cells before + cells_of x.size
       → Breaks p (exceeded x.name.at limits.Locations)
   -- the procedure before which as many stand as the limit allows
-  procedures : {before : List Declaration} {w : PlacedName} {ps : List Parameter} {r : Option ValueKind} {body : Statements}
-      → IsBehind before (proc w ps r body) p.declarations → procs before ≡ most limits.Procedures → Breaks p (exceeded w.at limits.Procedures)
+  procedures : {before : List Declaration} {w : PlacedName} {ps : List Parameter} {r : Option ValueKind}
+      {body : Statements}
+      → IsBehind before (proc w ps r body) p.declarations → procs before ≡ most limits.Procedures
+      → Breaks p (exceeded w.at limits.Procedures)
   -- the fun or the merge before which as many stand as the limit allows
   declared_funs : {before : List Declaration} {e : Declaration}
-      → IsBehind before e p.declarations → IsFun e → funs before ≡ most limits.Funs → Breaks p (exceeded (word_of e).at limits.Funs)
+      → IsBehind before e p.declarations → IsFun e → funs before ≡ most limits.Funs
+      → Breaks p (exceeded (word_of e).at limits.Funs)
   -- the parameter before which as many stand as the limit allows
   parameters : {e : Declaration} {before : List Parameter} {q : Parameter}
-      → Declares p e → IsBehind before q (parameters_of e) → length before ≡ most limits.Parameters → Breaks p (exceeded q.name.at limits.Parameters)
+      → Declares p e → IsBehind before q (parameters_of e) → length before ≡ most limits.Parameters
+      → Breaks p (exceeded q.name.at limits.Parameters)
   -- the parameter or the `let` before which as many locals stand as the limit allows
-  local_parameter : {w : PlacedName} {ps : List Parameter} {r : Option ValueKind} {body : Statements} {before : List Parameter} {q : Parameter}
-      → Declares p (proc w ps r body) → IsBehind before q ps → length before ≡ most limits.Locals → Breaks p (exceeded q.name.at limits.Locals)
+  local_parameter : {w : PlacedName} {ps : List Parameter} {r : Option ValueKind} {body : Statements}
+      {before : List Parameter} {q : Parameter}
+      → Declares p (proc w ps r body) → IsBehind before q ps → length before ≡ most limits.Locals
+      → Breaks p (exceeded q.name.at limits.Locals)
   local_let : {i : Site} {w : PlacedName} {x : RightSide}
       → Stands p i (bind w x) → i.before ≡ most limits.Locals → Breaks p (exceeded w.at limits.Locals)
   -- the item before which as many stand as the limit allows
   too_many_items : {i : Site} {all before : List PrintItem} {x : PrintItem}
-      → Stands p i (print all) → IsBehind before x all → length before ≡ most limits.Items → Breaks p (exceeded (item_place x) limits.Items)
+      → Stands p i (print all) → IsBehind before x all → length before ≡ most limits.Items
+      → Breaks p (exceeded (item_place x) limits.Items)
   -- a fun or a merge whose body weighs more than the limit
   too_heavy : {before : List Declaration} {e : Declaration}
-      → IsBehind before e p.declarations → most limits.Weight < declaration_weight (weights_after [] before) e → Breaks p (exceeded (word_of e).at limits.Weight)
+      → IsBehind before e p.declarations → most limits.Weight < declaration_weight (weights_after [] before) e
+      → Breaks p (exceeded (word_of e).at limits.Weight)
 
 -- a program breaks no rule and no limit
 abbrev pub BreaksNone : ProgramTree → Type 0

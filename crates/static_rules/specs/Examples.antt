@@ -117,7 +117,8 @@ return_in_loop = program_of (procedure_of (Some k.Int)
 abbrev pub nine_parameters : ProgramTree
 nine_parameters = program_of (proc (letter 5 102)
     (int_parameter 7 97 ∷ int_parameter 15 98 ∷ int_parameter 23 99 ∷ int_parameter 31 100 ∷ int_parameter 39 101
-    ∷ int_parameter 47 102 ∷ int_parameter 55 103 ∷ int_parameter 63 104 ∷ int_parameter 71 105 ∷ []) None no_statements ∷ []) []
+    ∷ int_parameter 47 102 ∷ int_parameter 55 103 ∷ int_parameter 63 104 ∷ int_parameter 71 105 ∷ []) None no_statements
+    ∷ []) []
 
 -- each of these programs breaks this rule at this place, and it is the first that it breaks
 pub record Examples : Type 0 where

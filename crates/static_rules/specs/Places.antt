@@ -120,14 +120,20 @@ pub record Site : Type 0 where
 -- the statements of a block from one on, with what is known at that one
 pub data Lies (p : ProgramTree) : Site → Statements → Type 0 where
   in_proc : {w : PlacedName} {ps : List Parameter} {r : Option ValueKind} {body : Statements}
-      → Declares p (proc w ps r body) → Lies p (record { names = outside p.declarations; locals = with_params [] ps; result = r; before = length ps }) body
+      → Declares p (proc w ps r body)
+      → Lies p (record { names = outside p.declarations; locals = with_params [] ps; result = r; before = length ps })
+      body
   in_main : Lies p (record { names = outside p.declarations; locals = []; result = None; before = 0 }) p.main
   next : {i : Site} {s : Statement} {rest : Statements}
-      → Lies p i (statements s rest) → Lies p (record i { locals = locals_after i.names i.locals s; before = i.before + statement_lets s }) rest
-  in_arm : {i : Site} {at line : ℕ} {form : StatementForm} {rest : Statements} {n : ℕ} {test : Expression} {body : Statements}
-      → Lies p i (statements (statement at line form) rest) → ArmOf (arms_of form) n test body → Lies p (record i { before = i.before + n }) body
+      → Lies p i (statements s rest)
+      → Lies p (record i { locals = locals_after i.names i.locals s; before = i.before + statement_lets s }) rest
+  in_arm : {i : Site} {at line : ℕ} {form : StatementForm} {rest : Statements} {n : ℕ} {test : Expression}
+      {body : Statements}
+      → Lies p i (statements (statement at line form) rest) → ArmOf (arms_of form) n test body
+      → Lies p (record i { before = i.before + n }) body
   in_else : {i : Site} {at line : ℕ} {arms : Arms} {last : Statements} {rest : Statements}
-      → Lies p i (statements (statement at line (choose_or arms last)) rest) → Lies p (record i { before = i.before + arms_lets arms }) last
+      → Lies p i (statements (statement at line (choose_or arms last)) rest)
+      → Lies p (record i { before = i.before + arms_lets arms }) last
 
 -- a statement of this form, and its place
 pub record Stands (p : ProgramTree) (i : Site) (form : StatementForm) : Type 0 where
@@ -152,7 +158,8 @@ pub data Occurs (p : ProgramTree) : Names → Locals → Expression → Type 0 w
 -- a name that is read or assigned, with an index or without
 pub data Uses (p : ProgramTree) : Names → Locals → PlacedName → Bool → Type 0 where
   read : {c : Names} {l : Locals} {at : ℕ} {w : PlacedName} → Occurs p c l (placed at (var w)) → Uses p c l w false
-  read_cell : {c : Names} {l : Locals} {at : ℕ} {w : PlacedName} {index : Expression} → Occurs p c l (placed at (cell w index)) → Uses p c l w true
+  read_cell : {c : Names} {l : Locals} {at : ℕ} {w : PlacedName} {index : Expression}
+      → Occurs p c l (placed at (cell w index)) → Uses p c l w true
   written : {i : Site} {w : PlacedName} {x : RightSide}
       → Stands p i (assign w x) → Uses p i.names i.locals w false
   written_cell : {i : Site} {w : PlacedName} {index e : Expression}
@@ -179,23 +186,33 @@ pub data Wanted (p : ProgramTree) : Names → Locals → Expression → ValueKin
   written_value : {i : Site} {w : PlacedName} {index e : Expression} {t : ValueKind}
       → Stands p i (assign_cell w index e) → name_kind (find w.text i.locals) (i.names.shared w.text) ≡ Some t
       → Wanted p i.names i.locals e t
-  call_argument : {i : Site} {form : StatementForm} {w : PlacedName} {args : Expressions} {f : Callee} {e : Expression} (q : Parameter)
-      → Stands p i form → call_of form ≡ Some (w, args) → i.names.procs w.text ≡ Some f → Among (zip (expressions_of args) f.params) (e, q)
+  call_argument : {i : Site} {form : StatementForm} {w : PlacedName} {args : Expressions} {f : Callee} {e : Expression}
+      (q : Parameter)
+      → Stands p i form → call_of form ≡ Some (w, args) → i.names.procs w.text ≡ Some f
+      → Among (zip (expressions_of args) f.params) (e, q)
       → Wanted p i.names i.locals e q.kind
-  fun_argument : {c : Names} {l : Locals} {at : ℕ} {w : PlacedName} {args : Expressions} {f : Callee} {e : Expression} (q : Parameter)
-      → Occurs p c l (placed at (apply w args)) → c.funs w.text ≡ Some f → Among (zip (expressions_of args) f.params) (e, q) → Wanted p c l e q.kind
-  at_index : {c : Names} {l : Locals} {at : ℕ} {w : PlacedName} {e : Expression} → Occurs p c l (placed at (cell w e)) → Wanted p c l e k.Int
-  at_position : {c : Names} {l : Locals} {at at' : ℕ} {e : Expression} → Occurs p c l (placed at (input at' e)) → Wanted p c l e k.Int
-  picked_by : {c : Names} {l : Locals} {at : ℕ} {e x y : Expression} → Occurs p c l (placed at (pick e x y)) → Wanted p c l e k.Bool
+  fun_argument : {c : Names} {l : Locals} {at : ℕ} {w : PlacedName} {args : Expressions} {f : Callee} {e : Expression}
+      (q : Parameter)
+      → Occurs p c l (placed at (apply w args)) → c.funs w.text ≡ Some f
+      → Among (zip (expressions_of args) f.params) (e, q) → Wanted p c l e q.kind
+  at_index : {c : Names} {l : Locals} {at : ℕ} {w : PlacedName} {e : Expression} → Occurs p c l (placed at (cell w e))
+      → Wanted p c l e k.Int
+  at_position : {c : Names} {l : Locals} {at at' : ℕ} {e : Expression} → Occurs p c l (placed at (input at' e))
+      → Wanted p c l e k.Int
+  picked_by : {c : Names} {l : Locals} {at : ℕ} {e x y : Expression} → Occurs p c l (placed at (pick e x y))
+      → Wanted p c l e k.Bool
   picked_last : {c : Names} {l : Locals} {at : ℕ} {e x y : Expression} {t : ValueKind}
       → Occurs p c l (placed at (pick e x y)) → kind_in c l x ≡ Some t → Wanted p c l y t
-  operand : {c : Names} {l : Locals} {at : ℕ} {e : Expression} {op : UnaryOp} → Occurs p c l (placed at (unary op e)) → Wanted p c l e (operand_kind op)
+  operand : {c : Names} {l : Locals} {at : ℕ} {e : Expression} {op : UnaryOp} → Occurs p c l (placed at (unary op e))
+      → Wanted p c l e (operand_kind op)
   on_left : {c : Names} {l : Locals} {at : ℕ} {e x : Expression} {op : BinaryOp} {rest : Links} {t : ValueKind}
       → Occurs p c l (placed at (chain e (link op x rest))) → operands op ≡ Some t → Wanted p c l e t
   on_right : {c : Names} {l : Locals} {at : ℕ} {e x : Expression} (op : BinaryOp) {rest : Links} {t : ValueKind}
-      → Occurs p c l (placed at (chain x rest)) → Among (links_of rest) (op, e) → operands op ≡ Some t → Wanted p c l e t
+      → Occurs p c l (placed at (chain x rest)) → Among (links_of rest) (op, e) → operands op ≡ Some t
+      → Wanted p c l e t
   compared : {c : Names} {l : Locals} {at : ℕ} {e x : Expression} (op : BinaryOp) {rest : Links} {t : ValueKind}
-      → Occurs p c l (placed at (chain x rest)) → Among (links_of rest) (op, e) → compares op ≡ true → kind_in c l x ≡ Some t → Wanted p c l e t
+      → Occurs p c l (placed at (chain x rest)) → Among (links_of rest) (op, e) → compares op ≡ true
+      → kind_in c l x ≡ Some t → Wanted p c l e t
 
 -- an expression that may not be a handle
 pub data NoHandle (p : ProgramTree) : Names → Locals → Expression → Type 0 where

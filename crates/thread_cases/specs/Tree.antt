@@ -1,4 +1,5 @@
--- A tree of revisions as a machine by numbers. Each but the leaves forks two children and joins two revisions, or the first
+-- A tree of revisions as a machine by numbers. Each but the leaves forks two children and joins two
+-- revisions, or the first
 -- one forks leaves in rounds, and joins them.
 --   next, joined   what a revision does next, and what a join makes of it
 --   goes_on, is_early   it has not ended, or may fork

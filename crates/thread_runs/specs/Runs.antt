@@ -43,7 +43,8 @@ pub record IsRunOf (g : CodeRun) (fuel : ℕ) (r : Ran) : Type 0 where
   -- joined twice, the last entry joined what was joined
   pub world : World (Local ℕ)
   pub complete : IsCompleteRun g fuel (numbers_of r) world
-  -- no halt was entered, and of each revision of the world its forker is told, and its end unless it was joined; or it is that
+  -- no halt was entered, and of each revision of the world its forker is told,
+  -- and its end unless it was joined; or it is that
   -- of a second join
   pub told : TellsWorld g world r
   -- its outcome is that of this world

@@ -124,7 +124,8 @@ pub record IsClosedTo (p : PartialTrace) (parts : List Part) : Type 0 where
   pub fuel : ℕ
   pub ended : p.end ≡ Some end
   pub left : p.fuel ≡ Some fuel
-  pub parts_are : parts ≡ p.parts ++ record { path = p.path; events = p.events; end = end; fuel = fuel; written = p.written; text = p.text } ∷ []
+  pub parts_are : parts ≡ p.parts ++
+      record { path = p.path; events = p.events; end = end; fuel = fuel; written = p.written; text = p.text } ∷ []
 
 -- or that a line is wanting
 abbrev pub Closes : {A : Type 0} → PartialTrace → Option (Vec Part A) → Type 0

@@ -58,7 +58,8 @@ FitsEvent (event.Joined on line) = FitsPath on × (line < 2 ^ 32)
 abbrev pub end_text : PartEnd → List ℕ
 end_text part_end.Done = codes "end done"
 end_text (part_end.Trapped trap place) =
-    codes "end " ++ (cause_text trap.cause place ++ (codes " at line " ++ (decimal trap.line ++ (codes " in revision " ++ path_text trap.origin))))
+    codes "end " ++ (cause_text trap.cause place
+    ++ (codes " at line " ++ (decimal trap.line ++ (codes " in revision " ++ path_text trap.origin))))
 
 -- a merge's location has a name, and other causes have no place
 abbrev pub IsPlaceOf : Cause → List ℕ → Type 0
@@ -77,7 +78,8 @@ FitsEnd (part_end.Trapped trap place) = FitsTrap trap.cause trap.line trap.origi
 -- ---- writes
 
 abbrev pub change_text : Change → List ℕ
-change_text c = codes "write " ++ (c.place ++ (codes " " ++ (value_text c.value ++ (codes " root " ++ value_text c.root))))
+change_text c = codes "write "
+    ++ (c.place ++ (codes " " ++ (value_text c.value ++ (codes " root " ++ value_text c.root))))
 
 pub record FitsChange (c : Change) : Type 0 where
   pub place : IsPlace c.place

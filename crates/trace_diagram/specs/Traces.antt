@@ -96,7 +96,8 @@ IsWholeLines bytes = (bytes ≡ []) ⊎ ((front : List ℕ) × (bytes ≡ ended 
 -- line with which no trace text goes on, or a line without its line feed
 pub record GoesWrong (lines rest : List ℕ) : Type 0 where
   pub at_end : rest ≡ [] → IsTraceText lines → ⊥
-  pub in_line : (line more : List ℕ) → IsOneLine line → rest ≡ ended line ++ more → BeginsTraceText (lines ++ ended line) → ⊥
+  pub in_line : (line more : List ℕ) → IsOneLine line → rest ≡ ended line ++ more
+      → BeginsTraceText (lines ++ ended line) → ⊥
 
 -- the bytes up to `at` are lines with which a trace text begins, and the rest goes wrong at once
 pub record IsFirstFault (bytes : List ℕ) (at : ℕ) : Type 0 where

@@ -8,7 +8,8 @@
 --   JoinedOn     of `join_or_take`: what `join` tells, and then what is handed out, or the joinee
 --   Settled      of `settle`: what `end` tells of a joinee, and then what `join` tells of its joiner
 --   ForkedBehind, HaltedBehind  of `fork_behind`: the same, and then what `fork` tells
---   EndedOn      of `end_and_take`: what `end` tells, and then what is handed out, or how the join of what waited came out
+--   EndedOn      of `end_and_take`: what `end` tells, and then what is handed out,
+--                or how the join of what waited came out
 --   IsHalted     a halt was entered, before the call or by it
 use Rattle.std.specs.Prelude.{◌≡◌, ◌⊎◌, ℕ, Bool, true, false, Some, List, length, cond, MatchBool}
 use Rattle.revision_machine.specs.Numbered.{at_number, put_number}
@@ -168,7 +169,8 @@ module _ {L R A E : Type 0} (d : HubMachine L R A E) (ends : E → L → Type 0)
       (start : L) × (w.start ≡ Some start)
       × Meets (numbered d) (values d ends) start w.found k a e
 
-  module _ {C S : Type 0} (claimed : C → A → E → Type 0) (stopped : S → A → E → Type 0) (group : C → List ℕ) (halted : S → List ℕ) where
+  module _ {C S : Type 0} (claimed : C → A → E → Type 0) (stopped : S → A → E → Type 0) (group : C → List ℕ)
+      (halted : S → List ℕ) where
     abbrev pub JoinSays : View L → View L → ℕ → A → JoinAnswer A C S → Type 0
     JoinSays v w k a (join.Claimed c) =
         (at_number w.said (d.on a) ≡ Some mark.Done) × (group c ≡ w.group)
@@ -216,7 +218,8 @@ module _ {L R A E : Type 0} (d : HubMachine L R A E) (ends : E → L → Type 0)
     pub gone : LacksPass w k
     pub entry : MatchBool by_join (AddsNone w) (AddsEntry w k)
 
-  -- the end of the joinee m, and then the join of it by k, which is in this state then: two entries, told as if the seat had taken the turn between the two
+  -- the end of the joinee m, and then the join of it by k, which is in this state then: two entries,
+  -- told as if the seat had taken the turn between the two
   pub record Settled (v w : View L) (m k : ℕ) (l : L) : Type 0 where
     pub between : View L
     pub ended : EndedSays v between m false
@@ -237,8 +240,10 @@ module _ {L R A E : Type 0} (d : HubMachine L R A E) (ends : E → L → Type 0)
       ⊎ ((between : View L) × Settled v between m k l × IsOneTurn between w
       × IsHalted between (sees w.said between.log w))
 
-  module _ {C S : Type 0} (claimed : C → A → E → Type 0) (stopped : S → A → E → Type 0) (group : C → List ℕ) (halted : S → List ℕ) where
-    -- the joiner n is handed out, and joins in the same turn: this is what `join` tells of it had the seat taken the turn between the two
+  module _ {C S : Type 0} (claimed : C → A → E → Type 0) (stopped : S → A → E → Type 0) (group : C → List ℕ)
+      (halted : S → List ℕ) where
+    -- the joiner n is handed out, and joins in the same turn:
+    -- this is what `join` tells of it had the seat taken the turn between the two
     pub record CameOn (said : List Said) (v w : View L) (n : ℕ) (r : JoinAnswer A C S) : Type 0 where
       pub at : A
       pub drawn : View L

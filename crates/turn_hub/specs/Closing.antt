@@ -69,7 +69,8 @@ module _ (N : Numbered) where
     EndsFit (Some e ∷ es) (x ∷ w) =
         ((l : N.Local) × (x.1 ≡ Plain l) × IsEndOf e l) × EndsFit es w
 
-    pub record KeptRun (start : N.Local) (state : HubState) (schedule forkers : List ℕ) (ended : List (Option E)) : Type 0 where
+    pub record KeptRun (start : N.Local) (state : HubState) (schedule forkers : List ℕ) (ended : List (Option E)) : Type
+        0 where
       pub world : Entries N.Local
       pub legal : IsLegal start state schedule world
       -- of each revision of the world, the number that forked it

@@ -67,10 +67,13 @@ abbrev mutual
   StatementFormTyped c result l (assign w r) l' =
       ((t : ValueKind) × ScalarHas (find w.text l) (c.shared w.text) t × RightSideHas c l r t) × (l' ≡ l)
   StatementFormTyped c result l (assign_cell w index e) l' =
-      ((t : ValueKind) × ArrayHas (find w.text l) (c.shared w.text) t × HasKind c l index k.Int × HasKind c l e t) × (l' ≡ l)
+      ((t : ValueKind) × ArrayHas (find w.text l) (c.shared w.text) t × HasKind c l index k.Int × HasKind c l e t)
+      × (l' ≡ l)
   StatementFormTyped c result l (choose arms) l' = ArmsTyped c result l arms × (l' ≡ l)
-  StatementFormTyped c result l (choose_or arms last) l' = (ArmsTyped c result l arms × StatementsTyped c result l last) × (l' ≡ l)
-  StatementFormTyped c result l (repeat test body) l' = (HasKind c l test k.Bool × StatementsTyped c result l body) × (l' ≡ l)
+  StatementFormTyped c result l (choose_or arms last) l' =
+      (ArmsTyped c result l arms × StatementsTyped c result l last) × (l' ≡ l)
+  StatementFormTyped c result l (repeat test body) l' =
+      (HasKind c l test k.Bool × StatementsTyped c result l body) × (l' ≡ l)
   StatementFormTyped c result l (call w args) l' = ((p : Callee) × CallTyped c l w args p) × (l' ≡ l)
   StatementFormTyped c result l (return e) l' = ReturnTyped c l result e × (l' ≡ l)
   StatementFormTyped c result l (fork w args) l' = ((p : Callee) × CallTyped c l w args p) × (l' ≡ l)
@@ -81,7 +84,8 @@ abbrev mutual
   -- the statements of a block, each with what is in scope behind the one before it
   pub StatementsTyped : Names → Option ValueKind → Locals → Statements → Type 0
   StatementsTyped c result l no_statements = Unit {0}
-  StatementsTyped c result l (statements s rest) = (l' : Locals) × StatementTyped c result l s l' × StatementsTyped c result l' rest
+  StatementsTyped c result l (statements s rest) =
+      (l' : Locals) × StatementTyped c result l s l' × StatementsTyped c result l' rest
 
   -- the tests and blocks of an `if`; what a block binds is not in scope behind it
   pub ArmsTyped : Names → Option ValueKind → Locals → Arms → Type 0
@@ -95,12 +99,14 @@ mutual
   -- the last statement of a block is `return`, or an `if` with a last `else` whose blocks all end so
   pub data Ends : Statements → Type 0 where
     by_return : {at line : ℕ} {e : Option Expression} → Ends (statements (statement at line (return e)) no_statements)
-    by_if : {at line : ℕ} {arms : Arms} {last : Statements} → AllEnd arms → Ends last → Ends (statements (statement at line (choose_or arms last)) no_statements)
+    by_if : {at line : ℕ} {arms : Arms} {last : Statements} → AllEnd arms → Ends last
+        → Ends (statements (statement at line (choose_or arms last)) no_statements)
     behind : {s : Statement} {rest : Statements} → Ends rest → Ends (statements s rest)
 
   pub data AllEnd : Arms → Type 0 where
     no_more : AllEnd no_arms
-    one_more : {test : Expression} {body : Statements} {rest : Arms} → Ends body → AllEnd rest → AllEnd (arm test body rest)
+    one_more : {test : Expression} {body : Statements} {rest : Arms} → Ends body → AllEnd rest
+        → AllEnd (arm test body rest)
 
 -- ---- declarations
 
@@ -124,7 +130,8 @@ ParamsNew c l [] = Unit {0}
 ParamsNew c l (p ∷ ps) = IsNew c l p.name × ParamsNew c (added l p.name.text (Some p.kind)) ps
 
 -- a fun takes values that are no handles and gives one; its body has the kind of its result
-pub record FunTyped (inner : Names) (before : List Declaration) (w : PlacedName) (ps : List Parameter) (r : ValueKind) (e : Expression) : Type 0 where
+pub record FunTyped (inner : Names) (before : List Declaration) (w : PlacedName) (ps : List Parameter) (r : ValueKind)
+    (e : Expression) : Type 0 where
   pub name : IsNewName before w
   pub params : ParamsNew inner [] ps
   pub kinds : (p : Parameter) → Among ps p → p.kind ≢ k.Rev
@@ -168,7 +175,8 @@ abbrev pub Returns : Option ValueKind → Statements → Type 0
 Returns None body = Unit {0}
 Returns (Some t) body = Ends body
 
-pub record ProcTyped (outer : Names) (before : List Declaration) (w : PlacedName) (ps : List Parameter) (r : Option ValueKind) (block : Statements) : Type 0 where
+pub record ProcTyped (outer : Names) (before : List Declaration) (w : PlacedName) (ps : List Parameter)
+    (r : Option ValueKind) (block : Statements) : Type 0 where
   pub name : IsNewName before w
   pub params : ParamsNew outer [] ps
   pub result : Returns r block
@@ -184,7 +192,8 @@ DeclarationTyped outer inner before (proc w ps r body) = ProcTyped outer before 
 -- declarations behind these, of which the last comes first
 abbrev pub DeclarationsTyped : Names → Names → List Declaration → List Declaration → Type 0
 DeclarationsTyped outer inner before [] = Unit {0}
-DeclarationsTyped outer inner before (e ∷ es) = DeclarationTyped outer inner before e × DeclarationsTyped outer inner (e ∷ before) es
+DeclarationsTyped outer inner before (e ∷ es) =
+    DeclarationTyped outer inner before e × DeclarationsTyped outer inner (e ∷ before) es
 
 pub record ProgramTyped (p : ProgramTree) : Type 0 where
   pub declarations : DeclarationsTyped (outside p.declarations) (within p.declarations) [] p.declarations

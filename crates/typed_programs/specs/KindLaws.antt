@@ -60,11 +60,13 @@ expression_faults c l e = r.broken_in_expression [] (λ f. f ∷ []) (λ xs ys. 
 -- where each local has a kind and each application is that of a known fun: what breaks no rule has the kind
 -- that the rules give
 abbrev pub Sound : Type 0
-Sound = (c : Names) (l : Locals) (e : Expression) → AllKinded l → Applies c e → expression_faults c l e ≡ [] → (t : ValueKind) × (kind_in c l e ≡ Some t) × HasKind c l e t
+Sound = (c : Names) (l : Locals) (e : Expression) → AllKinded l → Applies c e → expression_faults c l e ≡ []
+    → (t : ValueKind) × (kind_in c l e ≡ Some t) × HasKind c l e t
 
 -- what has a kind by the rules breaks none, and the kind is the one that its outermost form fixes
 abbrev pub Complete : Type 0
-Complete = (c : Names) (l : Locals) (e : Expression) (t : ValueKind) → HasKind c l e t → (expression_faults c l e ≡ []) × (kind_in c l e ≡ Some t)
+Complete = (c : Names) (l : Locals) (e : Expression) (t : ValueKind) → HasKind c l e t → (expression_faults c l e ≡ [])
+    × (kind_in c l e ≡ Some t)
 
 -- an expression has no two kinds
 abbrev pub Only : Type 0

@@ -24,7 +24,8 @@ pub record SharedVariable : Type 0 where
 -- the number of the first merge of a name, counted among the merges
 abbrev pub merge_at : Name → List Declaration → Option ℕ
 merge_at name [] = None
-merge_at name (merge w m j r body ∷ es) = if same name w.text then Some 0 else option_map (λ n. 1 + n) (merge_at name es)
+merge_at name (merge w m j r body ∷ es) =
+    if same name w.text then Some 0 else option_map (λ n. 1 + n) (merge_at name es)
 merge_at name (e ∷ es) = merge_at name es
 
 abbrev pub merge_of : List Declaration → Option PlacedName → Option ℕ

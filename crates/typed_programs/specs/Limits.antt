@@ -81,7 +81,8 @@ funs (e ∷ es) = funs es
 
 -- a declaration, where the funs before it have these weights
 abbrev pub DeclarationWithin : Table ℕ → Declaration → Type 0
-DeclarationWithin ws (fun w ps r body) = (length ps ≤ most limits.Parameters) × (expression_weight ws body ≤ most limits.Weight)
+DeclarationWithin ws (fun w ps r body) =
+    (length ps ≤ most limits.Parameters) × (expression_weight ws body ≤ most limits.Weight)
 DeclarationWithin ws (merge w m j r body) = expression_weight ws body ≤ most limits.Weight
 DeclarationWithin ws (shared x) = Unit {0}
 DeclarationWithin ws (proc w ps r body) = (length ps ≤ most limits.Parameters) × BodyWithin (length ps) body

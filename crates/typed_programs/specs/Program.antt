@@ -76,13 +76,38 @@ pub record Passed : Type 0 where
   pub funs_left : ℕ
 
 abbrev pub nothing_passed : Passed
-nothing_passed = record { number = 0; names = []; merges = []; merge_count = 0; weights = []; located = 0; procs_left = first_past limits.Procedures; funs_left = first_past limits.Funs }
+nothing_passed = record {
+  number = 0;
+  names = [];
+  merges = [];
+  merge_count = 0;
+  weights = [];
+  located = 0;
+  procs_left = first_past limits.Procedures;
+  funs_left = first_past limits.Funs;
+}
 
 abbrev pub passed_with : Passed → Declaration → Passed
-passed_with p (fun w ps r body) = record p { number = p.number + 1; names = added p.names w.text p.number; weights = added p.weights w.text (weight p.weights body); funs_left = p.funs_left - 1 }
-passed_with p (merge w m j r body) = record p { number = p.number + 1; names = added p.names w.text p.number; merges = added p.merges w.text p.merge_count; merge_count = p.merge_count + 1; funs_left = p.funs_left - 1 }
-passed_with p (shared x) = record p { number = p.number + 1; names = added p.names x.name.text p.number; located = located_after p.located (cells_in x.size) }
-passed_with p (proc w ps r body) = record p { number = p.number + 1; names = added p.names w.text p.number; procs_left = p.procs_left - 1 }
+passed_with p (fun w ps r body) = record p {
+  number = p.number + 1;
+  names = added p.names w.text p.number;
+  weights = added p.weights w.text (weight p.weights body);
+  funs_left = p.funs_left - 1;
+}
+passed_with p (merge w m j r body) = record p {
+  number = p.number + 1;
+  names = added p.names w.text p.number;
+  merges = added p.merges w.text p.merge_count;
+  merge_count = p.merge_count + 1;
+  funs_left = p.funs_left - 1;
+}
+passed_with p (shared x) = record p {
+  number = p.number + 1;
+  names = added p.names x.name.text p.number;
+  located = located_after p.located (cells_in x.size);
+}
+passed_with p (proc w ps r body) =
+    record p { number = p.number + 1; names = added p.names w.text p.number; procs_left = p.procs_left - 1 }
 
 -- the weight of the body of a fun or of a merge behind these
 abbrev pub body_weight : Passed → Declaration → ℕ
@@ -99,7 +124,13 @@ merge_number ms None = None
 merge_number ms (Some w) = find w.text ms
 
 abbrev pub info : Passed → SharedDeclaration → SharedInfo
-info p x = record { decl = p.number; base = p.located; cells = cells_in x.size; array = is_some x.size; merge = merge_number p.merges x.by }
+info p x = record {
+  decl = p.number;
+  base = p.located;
+  cells = cells_in x.size;
+  array = is_some x.size;
+  merge = merge_number p.merges x.by;
+}
 
 -- what a declaration adds to the shared variables
 abbrev pub info_of : Passed → Declaration → List SharedInfo
@@ -167,17 +198,20 @@ module _ {M : Type 0} (none : M) (one : TypeFault → M) (both : M → M → M) 
 
   abbrev pub proc_param : Names → Locals → ℕ → ℕ → Parameter → M
   proc_param c l left locals_left p =
-      both (new_local none one both p.name (find p.name.text l) (c.shared p.name.text)) (both (limit_at p.name.at limits.Parameters left) (one_more_local none one both p.name locals_left))
+      both (new_local none one both p.name (find p.name.text l) (c.shared p.name.text))
+      (both (limit_at p.name.at limits.Parameters left) (one_more_local none one both p.name locals_left))
 
   -- the parameters of a procedure, where these faults were found before
   abbrev pub proc_params : Names → Locals → ℕ → ℕ → M → List Parameter → M
   proc_params c l left locals_left found [] = found
   proc_params c l left locals_left found (p ∷ ps) =
-      proc_params c (added l p.name.text (Some p.kind)) (left - 1) (locals_left - 1) (both found (proc_param c l left locals_left p)) ps
+      proc_params c (added l p.name.text (Some p.kind)) (left - 1) (locals_left - 1)
+      (both found (proc_param c l left locals_left p)) ps
 
   abbrev pub merge_params : PlacedName → PlacedName → PlacedName → M
   merge_params m j r =
-      both (new_param j (added [] m.text (Some k.Int))) (new_param r (added (added [] m.text (Some k.Int)) j.text (Some k.Int)))
+      both (new_param j (added [] m.text (Some k.Int)))
+      (new_param r (added (added [] m.text (Some k.Int)) j.text (Some k.Int)))
 
   -- a fun's or a merge's weight
   abbrev pub weight_of : PlacedName → ℕ → M
@@ -189,7 +223,8 @@ module _ {M : Type 0} (none : M) (one : TypeFault → M) (both : M → M → M) 
 
   -- the body of a fun has the fun's result's kind, which is no handle's
   abbrev pub fun_body : Names → Locals → ValueKind → Expression → M
-  fun_body c l r body = both (part_by none one both c l body r) (not_rev none one both (expression_place body) (kind_in c l body))
+  fun_body c l r body = both (part_by none one both c l body r)
+      (not_rev none one both (expression_place body) (kind_in c l body))
 
   -- the name after `by` is that of a merge that is declared before
   abbrev pub by_use : Table ℕ → Option PlacedName → M
@@ -213,7 +248,8 @@ module _ {M : Type 0} (none : M) (one : TypeFault → M) (both : M → M → M) 
   -- the variable with which there are too many locations
   abbrev pub location_limit : PlacedName → ℕ → ℕ → M
   location_limit w before after =
-      if nat_le before (most limits.Locations) then (if nat_lt (most limits.Locations) after then one (exceeded w.at limits.Locations) else none) else none
+      if nat_le before (most limits.Locations)
+      then (if nat_lt (most limits.Locations) after then one (exceeded w.at limits.Locations) else none) else none
 
   -- a procedure with a result returns
   abbrev pub return_use : PlacedName → Option ValueKind → Bool → M
@@ -234,14 +270,18 @@ module _ {M : Type 0} (none : M) (one : TypeFault → M) (both : M → M → M) 
 
   abbrev pub broken_in_shared : Passed → SharedDeclaration → M
   broken_in_shared p x =
-      both (both (new_name x.name p.names) (location_limit x.name p.located (located_after p.located (cells_in x.size))))
-      (both (both (by_use p.merges x.by) (cumulative_kind x.by x.kind_at x.holds)) (both (size_use x.size) (first_value x.first x.holds)))
+      both (both (new_name x.name p.names)
+      (location_limit x.name p.located (located_after p.located (cells_in x.size))))
+      (both (both (by_use p.merges x.by) (cumulative_kind x.by x.kind_at x.holds))
+      (both (size_use x.size) (first_value x.first x.holds)))
 
   abbrev pub broken_in_proc : Names → Passed → PlacedName → List Parameter → Option ValueKind → Statements → M
   broken_in_proc outer p w ps r body =
       both (both (new_name w p.names) (limit_at w.at limits.Procedures p.procs_left))
-      (both (both (proc_params outer [] (first_past limits.Parameters) (first_past limits.Locals) none ps) (return_use w r (returns body)))
-      (broken_in_statements none one both outer r (with_params [] ps) (left_params (first_past limits.Locals) ps) none body))
+      (both (both (proc_params outer [] (first_past limits.Parameters) (first_past limits.Locals) none ps)
+      (return_use w r (returns body)))
+      (broken_in_statements none one both outer r (with_params [] ps) (left_params (first_past limits.Locals) ps) none
+      body))
 
   -- a declaration, where names mean this outside of funs and merges, and this inside, after these
   abbrev pub broken_in_declaration : Names → Names → Passed → Declaration → M
@@ -253,7 +293,8 @@ module _ {M : Type 0} (none : M) (one : TypeFault → M) (both : M → M → M) 
   -- declarations, where these faults were found before
   abbrev pub broken_in_declarations : Names → Names → Passed → M → List Declaration → M
   broken_in_declarations outer inner p found [] = found
-  broken_in_declarations outer inner p found (e ∷ es) = broken_in_declarations outer inner (passed_with p e) (both found (broken_in_declaration outer inner p e)) es
+  broken_in_declarations outer inner p found (e ∷ es) =
+      broken_in_declarations outer inner (passed_with p e) (both found (broken_in_declaration outer inner p e)) es
 
   abbrev pub broken_in_program : ProgramTree → M
   broken_in_program p =

@@ -103,29 +103,37 @@ module _ {M : Type 0} (none : M) (one : TypeFault → M) (both : M → M → M) 
     broken_in_expression_form c l no_rev = none
     broken_in_expression_form c l (var w) = scalar_use w (find w.text l) (c.shared w.text)
     broken_in_expression_form c l (cell w index) =
-        both (array_use w (find w.text l) (c.shared w.text)) (both (broken_in_expression c l index) (wants (expression_place index) (kind_in c l index) k.Int))
+        both (array_use w (find w.text l) (c.shared w.text))
+        (both (broken_in_expression c l index) (wants (expression_place index) (kind_in c l index) k.Int))
     broken_in_expression_form c l (apply w args) = args_by c l (params_of (c.funs w.text)) 0 none args
     broken_in_expression_form c l (input at index) =
-        both (input_use c.inside at) (both (broken_in_expression c l index) (wants (expression_place index) (kind_in c l index) k.Int))
+        both (input_use c.inside at)
+        (both (broken_in_expression c l index) (wants (expression_place index) (kind_in c l index) k.Int))
     broken_in_expression_form c l (inputs at) = input_use c.inside at
     broken_in_expression_form c l (pick test x y) =
         both (both (broken_in_expression c l test) (wants (expression_place test) (kind_in c l test) k.Bool))
-        (both (both (broken_in_expression c l x) (broken_in_expression c l y)) (alike (expression_place y) (kind_in c l x) (kind_in c l y)))
-    broken_in_expression_form c l (unary op part) = both (broken_in_expression c l part) (wants (expression_place part) (kind_in c l part) (operand_kind op))
+        (both (both (broken_in_expression c l x) (broken_in_expression c l y))
+        (alike (expression_place y) (kind_in c l x) (kind_in c l y)))
+    broken_in_expression_form c l (unary op part) =
+        both (broken_in_expression c l part) (wants (expression_place part) (kind_in c l part) (operand_kind op))
     broken_in_expression_form c l (chain first rest) =
-        broken_in_links c l (kind_in c l first) (both (broken_in_expression c l first) (first_operand rest (expression_place first) (kind_in c l first))) rest
+        broken_in_links c l (kind_in c l first)
+        (both (broken_in_expression c l first) (first_operand rest (expression_place first) (kind_in c l first))) rest
 
     -- the arguments from number n on, where these faults were found before
     pub args_by : Names → Locals → List Parameter → ℕ → M → Expressions → M
     args_by c l ps n found no_expressions = found
     args_by c l ps n found (expression x xs) =
-        args_by c l ps (n + 1) (both found (both (broken_in_expression c l x) (fits (expression_place x) (kind_in c l x) (slice_get ps n)))) xs
+        args_by c l ps (n + 1) (both found
+        (both (broken_in_expression c l x) (fits (expression_place x) (kind_in c l x) (slice_get ps n)))) xs
 
     -- the links of a chain whose first operand has this kind, where these faults were found before
     pub broken_in_links : Names → Locals → Option ValueKind → M → Links → M
     broken_in_links c l left found no_links = found
     broken_in_links c l left found (link op x rest) =
-        broken_in_links c l left (both found (both (broken_in_expression c l x) (right_operand op left (expression_place x) (kind_in c l x)))) rest
+        broken_in_links c l left
+        (both found (both (broken_in_expression c l x) (right_operand op left (expression_place x) (kind_in c l x))))
+        rest
 
   -- an expression where this kind is wanted
   abbrev pub part_by : Names → Locals → Expression → ValueKind → M

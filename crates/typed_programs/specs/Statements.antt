@@ -78,7 +78,8 @@ returns body = statements_return false body
 module _ {M : Type 0} (none : M) (one : TypeFault → M) (both : M → M → M) where
   -- a name that a procedure declares, which no shared variable and no local in scope may have
   abbrev pub new_local : PlacedName → Option (Option ValueKind) → Option Holder → M
-  new_local w found h = if is_some found then one (Redeclared w.at) else (if is_some h then one (Redeclared w.at) else none)
+  new_local w found h = if is_some found then one (Redeclared w.at)
+      else (if is_some h then one (Redeclared w.at) else none)
 
   -- the local of this name, where this many are left up to and with the first past the limit
   abbrev pub one_more_local : PlacedName → ℕ → M
@@ -91,7 +92,8 @@ module _ {M : Type 0} (none : M) (one : TypeFault → M) (both : M → M → M) 
   abbrev pub item_by : Names → Locals → ℕ → PrintItem → M
   item_by c l left (text at bytes) = one_more_item at left
   item_by c l left (shown e) =
-      both (both (broken_in_expression none one both c l e) (not_rev none one both (expression_place e) (kind_in c l e))) (one_more_item (expression_place e) left)
+      both (both (broken_in_expression none one both c l e)
+      (not_rev none one both (expression_place e) (kind_in c l e))) (one_more_item (expression_place e) left)
 
   -- the items of a print, where these faults were found before
   abbrev pub items_by : Names → Locals → ℕ → M → List PrintItem → M
@@ -101,27 +103,32 @@ module _ {M : Type 0} (none : M) (one : TypeFault → M) (both : M → M → M) 
   -- a value that is returned, in a procedure with this result, or in `main` or one without
   abbrev pub return_by : Names → Locals → Option ValueKind → ℕ → Option Expression → M
   return_by c l None at None = none
-  return_by c l None at (Some e) = both (broken_in_expression none one both c l e) (one (WrongType (expression_place e)))
+  return_by c l None at (Some e) =
+      both (broken_in_expression none one both c l e) (one (WrongType (expression_place e)))
   return_by c l (Some wanted) at None = one (WrongType at)
   return_by c l (Some wanted) at (Some e) = part_by none one both c l e wanted
 
   -- the right side of an assignment to what has this kind
   abbrev pub assigned : Names → Locals → Option ValueKind → RightSide → M
   assigned c l wanted r =
-      both (broken_in_right_side none one both c l r) (alike none one both (right_side_place r) wanted (right_side_kind c l r))
+      both (broken_in_right_side none one both c l r)
+      (alike none one both (right_side_place r) wanted (right_side_kind c l r))
 
   abbrev pub bind_by : Names → Locals → ℕ → PlacedName → RightSide → M
   bind_by c l left w r =
-      both (broken_in_right_side none one both c l r) (both (new_local w (find w.text l) (c.shared w.text)) (one_more_local w left))
+      both (broken_in_right_side none one both c l r)
+      (both (new_local w (find w.text l) (c.shared w.text)) (one_more_local w left))
 
   abbrev pub assign_by : Names → Locals → PlacedName → RightSide → M
   assign_by c l w r =
-      both (scalar_use none one both w (find w.text l) (c.shared w.text)) (assigned c l (name_kind (find w.text l) (c.shared w.text)) r)
+      both (scalar_use none one both w (find w.text l) (c.shared w.text))
+      (assigned c l (name_kind (find w.text l) (c.shared w.text)) r)
 
   abbrev pub cell_by : Names → Locals → PlacedName → Expression → Expression → M
   cell_by c l w index e =
       both (array_use none one both w (find w.text l) (c.shared w.text)) (both (part_by none one both c l index k.Int)
-      (both (broken_in_expression none one both c l e) (alike none one both (expression_place e) (name_kind (find w.text l) (c.shared w.text)) (kind_in c l e))))
+      (both (broken_in_expression none one both c l e)
+      (alike none one both (expression_place e) (name_kind (find w.text l) (c.shared w.text)) (kind_in c l e))))
 
   abbrev mutual
     -- a statement of a procedure with this result, where this many locals are left
@@ -134,7 +141,8 @@ module _ {M : Type 0} (none : M) (one : TypeFault → M) (both : M → M → M) 
     broken_in_statement_form c result l left at (assign_cell w index e) = cell_by c l w index e
     broken_in_statement_form c result l left at (choose arms) = broken_in_arms c result l left none arms
     broken_in_statement_form c result l left at (choose_or arms last) =
-        both (broken_in_arms c result l left none arms) (broken_in_statements c result l (left_arms left arms) none last)
+        both (broken_in_arms c result l left none arms)
+        (broken_in_statements c result l (left_arms left arms) none last)
     broken_in_statement_form c result l left at (repeat test body) =
         both (part_by none one both c l test k.Bool) (broken_in_statements c result l left none body)
     broken_in_statement_form c result l left at (call w args) = call_by none one both c l w args
@@ -148,14 +156,18 @@ module _ {M : Type 0} (none : M) (one : TypeFault → M) (both : M → M → M) 
     pub broken_in_statements : Names → Option ValueKind → Locals → ℕ → M → Statements → M
     broken_in_statements c result l left found no_statements = found
     broken_in_statements c result l left found (statements s rest) =
-        broken_in_statements c result (locals_after c l s) (left_after left s) (both found (broken_in_statement c result l left s)) rest
+        broken_in_statements c result (locals_after c l s) (left_after left s)
+        (both found (broken_in_statement c result l left s)) rest
 
     -- the tests and blocks of an `if`, where these faults were found before
     pub broken_in_arms : Names → Option ValueKind → Locals → ℕ → M → Arms → M
     broken_in_arms c result l left found no_arms = found
     broken_in_arms c result l left found (arm test body rest) =
-        broken_in_arms c result l (left_statements left body) (both found (both (part_by none one both c l test k.Bool) (broken_in_statements c result l left none body))) rest
+        broken_in_arms c result l (left_statements left body)
+        (both found (both (part_by none one both c l test k.Bool) (broken_in_statements c result l left none body)))
+        rest
 
   -- a test of an `if` and its block
   abbrev pub arm_by : Names → Option ValueKind → Locals → ℕ → Expression → Statements → M
-  arm_by c result l left test body = both (part_by none one both c l test k.Bool) (broken_in_statements c result l left none body)
+  arm_by c result l left test body =
+      both (part_by none one both c l test k.Bool) (broken_in_statements c result l left none body)

@@ -74,20 +74,24 @@ abbrev mutual
   ExpressionFormHas c l no_rev t = t ≡ k.Rev
   ExpressionFormHas c l (var w) t = ScalarHas (find w.text l) (c.shared w.text) t
   ExpressionFormHas c l (cell w index) t = ArrayHas (find w.text l) (c.shared w.text) t × HasKind c l index k.Int
-  ExpressionFormHas c l (apply w args) t = (f : Callee) × (c.funs w.text ≡ Some f) × (f.result ≡ Some t) × (count args ≡ length f.params) × ArgsHave c l f.params 0 args
+  ExpressionFormHas c l (apply w args) t = (f : Callee) × (c.funs w.text ≡ Some f) × (f.result ≡ Some t)
+      × (count args ≡ length f.params) × ArgsHave c l f.params 0 args
   ExpressionFormHas c l (input at index) t = (t ≡ k.Int) × (c.inside ≡ false) × HasKind c l index k.Int
   ExpressionFormHas c l (inputs at) t = (t ≡ k.Int) × (c.inside ≡ false)
   ExpressionFormHas c l (pick test x y) t = HasKind c l test k.Bool × HasKind c l x t × HasKind c l y t
   ExpressionFormHas c l (unary op e) t = (t ≡ operand_kind op) × HasKind c l e (operand_kind op)
   ExpressionFormHas c l (chain first rest) t =
-      (left : ValueKind) × HasKind c l first left × TakesFirst rest left × LinksHave c l left rest × (links_kind rest ≡ Some t)
+      (left : ValueKind) × HasKind c l first left × TakesFirst rest left × LinksHave c l left rest
+      × (links_kind rest ≡ Some t)
 
   -- the arguments from number n on have the kinds of these parameters
   pub ArgsHave : Names → Locals → List Parameter → ℕ → Expressions → Type 0
   ArgsHave c l ps n no_expressions = Unit {0}
-  ArgsHave c l ps n (expression x xs) = ((t : ValueKind) × HasKind c l x t × IsOfKind (slice_get ps n) t) × ArgsHave c l ps (n + 1) xs
+  ArgsHave c l ps n (expression x xs) =
+      ((t : ValueKind) × HasKind c l x t × IsOfKind (slice_get ps n) t) × ArgsHave c l ps (n + 1) xs
 
   -- the operands of a chain whose first operand has this kind
   pub LinksHave : Names → Locals → ValueKind → Links → Type 0
   LinksHave c l left no_links = Unit {0}
-  LinksHave c l left (link op x rest) = ((t : ValueKind) × HasKind c l x t × TakesRightSide op left t) × LinksHave c l left rest
+  LinksHave c l left (link op x rest) =
+      ((t : ValueKind) × HasKind c l x t × TakesRightSide op left t) × LinksHave c l left rest

@@ -29,7 +29,8 @@ least_bit n from fits some =
     let h = bit_at-trailing_zeros w64 rest (omega arith) (omega arith) in
     let t : ℕ = trailing_zeros w64 rest in
     let set : bit_at n (from + t) ≡ 1 = sym (rest_bit n from t) ∙ h.1 in (
-      dite (dec_le 64 (from + t)) (λ le. absurd (one_or_zero (bit_at n (from + t)) set (bit_at_above n 64 (from + t) fits le)))
+      dite (dec_le 64 (from + t))
+          (λ le. absurd (one_or_zero (bit_at n (from + t)) set (bit_at_above n 64 (from + t) fits le)))
           (λ gt. omega arith),
       set,
       λ i lo hi. of_rest n from i lo ∙ h.2 (i - from) (omega arith),

@@ -34,7 +34,8 @@ none_at d l none = chosen_zero (bit_in (mask_of d) l) (get_or d.cells.items l 0)
 
 some_at : (d : Delta) (l : ℕ) → bit_in (mask_of d) l ≡ 1 → at d l ≢ None
 some_at d l one = λ none. one_or_zero (bit_in (mask_of d) l) one
-    (not_chosen (bit_in (mask_of d) l) (get_or d.cells.items l 0) (bit_at-lt (get_or (mask_of d) (l / 64) 0) (l % 64)) none)
+    (not_chosen (bit_in (mask_of d) l) (get_or d.cells.items l 0) (bit_at-lt (get_or (mask_of d) (l / 64) 0) (l % 64))
+    none)
 
 inside : (d : Delta) (l : ℕ) → bit_in (mask_of d) l ≡ 1 → l < locations d
 inside d l one = dite (dec_le (locations d) l)
@@ -69,7 +70,8 @@ next_here d from row m k at_row is low high one none =
           let here : 64 * row + i ≡ j = omega (arith, lo, start) in
           none_at d j
           (subst (λ (z : ℕ). bit_in (mask_of d) z ≡ 0) here
-          (bit_in_row (mask_of d) row i (omega (arith, less, high)) ∙ (ap (λ (z : ℕ). bit_at z i) (sym is) ∙ none i more less))),
+          (bit_in_row (mask_of d) row i (omega (arith, less, high))
+          ∙ (ap (λ (z : ℕ). bit_at z i) (sym is) ∙ none i more less))),
     )
 
 pub rest_of_row : (d : Delta) (from row m : ℕ) → row ≡ from / 64 → m ≡ get_or (mask_of d) row 0
@@ -108,7 +110,8 @@ next_in_row d from row m k le low is high one none =
     let first : 64 * row % 64 ≡ 0 = omega arith in
     next_later d (64 * from) (64 * row) (Some (64 * row + k)) (omega (arith, le))
     (none_behind d from row (64 * from) (64 * row) low (omega arith) (omega arith))
-    (next_here d (64 * row) row m k (omega arith) is (omega (arith, first)) high one (λ i lo hi. none i (omega arith) hi))
+    (next_here d (64 * row) row m k (omega arith) is (omega (arith, first)) high one
+    (λ i lo hi. none i (omega arith) hi))
 
 pub next_row_later : (d : Delta) (from mid : ℕ) (o : Option ℕ) → from ≤ mid → AreEmptyRows d from mid
     → MatchOption o (AreEmptyRows d mid (rows (locations d))) (IsNextRow d mid)

@@ -42,7 +42,8 @@ CoversWorldBut g Both q n = Unit {0}
 CoversWorldBut g (Listing w) q n = CoversBut g w q n
 
 -- a leg of this revision came out so, and all but it are covered
-pub record IsKnown (g : CodeRun) (w : Entries (Local ℕ)) (n : ℕ) (a : LegAnswer) (v : rust.World) (q : ReadyQueue) : Type 0 where
+pub record IsKnown (g : CodeRun) (w : Entries (Local ℕ)) (n : ℕ) (a : LegAnswer) (v : rust.World) (q : ReadyQueue)
+    : Type 0 where
   pub verified : IsVerified g
   pub reached : IsReached g (Listing w)
   pub answers : LegAnswers g (Listing w) n a v

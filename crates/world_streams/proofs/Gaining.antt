@@ -69,7 +69,8 @@ module _ (g : CodeRun) (t : Table) (w : Entries (Local ℕ)) (is : IsTable g t w
   pub some_slot : (s : WorldSlot) × (at_number t.slots.items 0 ≡ Some s)
   some_slot = by (at_number t.slots.items 0) refl
     where
-      by : (o : Option WorldSlot) → at_number t.slots.items 0 ≡ o → (s : WorldSlot) × (at_number t.slots.items 0 ≡ Some s)
+      by : (o : Option WorldSlot) → at_number t.slots.items 0 ≡ o → (s : WorldSlot)
+          × (at_number t.slots.items 0 ≡ Some s)
       by None e = none_some (sym (slot_none g t.slots.items w is.slots 0 e) ∙ there)
       by (Some s) e = (s, e)
 

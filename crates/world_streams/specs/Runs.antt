@@ -49,13 +49,15 @@ pub record Begun (O : Type 0) : Type 0 where
   pub out : MutBor O
 
 -- all that `main` gained on the way to this world was put
-pub record PutsSince {O : Type 0} (stream : O → Stream) (b : Begun O) (g : CodeRun) (w : World (Local ℕ)) (v : rust.World) (out : MutBor O) : Type 0 where
+pub record PutsSince {O : Type 0} (stream : O → Stream) (b : Begun O) (g : CodeRun) (w : World (Local ℕ))
+    (v : rust.World) (out : MutBor O) : Type 0 where
   pub same : out.ghost_name ≡ b.out.ghost_name
   pub never : NeverTwiceFrom g w
   pub schedule : List ℕ
   pub way : Replays (numbered g) b.first schedule w
   pub puts : PutsAll b.stood v (stream b.out.now) (stream out.now)
 
-pub record StopsSince {O : Type 0} (stream : O → Stream) (b : Begun O) (g : CodeRun) (out : MutBor O) (f : StreamFault) : Type 0 where
+pub record StopsSince {O : Type 0} (stream : O → Stream) (b : Begun O) (g : CodeRun) (out : MutBor O) (f : StreamFault)
+    : Type 0 where
   pub same : out.ghost_name ≡ b.out.ghost_name
   pub put : StreamsTo g b.first b.stood (stream b.out.now) (stream out.now) (Err f)

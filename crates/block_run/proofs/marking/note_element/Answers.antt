@@ -12,6 +12,7 @@ returns g c =
     let v = c.requires.variable in
     let stack = c.top.ensures in
     subst (HasMarked c.args.noted.now c.note_cell.new.noted)
-    (sym (ap (λ o. cell_marks (at c.args.memory.now.first.roots) o (c.top.result ∷ drop 1 (run_of c.args.b.now c.args.words.now c.args.r.now).stack)) v.is
+    (sym (ap (λ o. cell_marks (at c.args.memory.now.first.roots) o
+    (c.top.result ∷ drop 1 (run_of c.args.b.now c.args.words.now c.args.r.now).stack)) v.is
     ) ∙ sym (ap (cell_marks (at c.args.memory.now.first.roots) (array c.args.code.now.vars c.args.v)) stack))
     (c.note_cell.ensures v.place v.first v.cells)

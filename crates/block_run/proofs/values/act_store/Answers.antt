@@ -8,7 +8,8 @@ pub returns : goal.returns
 returns c =
     let found = c.requires.placed.found in
     let within = c.requires.placed.within in
-    let many = length-set c.args.words.now (c.args.r.now.base + c.args.n) (get_or c.args.words.now (c.args.r.now.top - 1) 0) in
+    let many = length-set c.args.words.now (c.args.r.now.base + c.args.n)
+    (get_or c.args.words.now (c.args.r.now.top - 1) 0) in
     record {
       act = stored c.args.b.now c.args.words.now c.args.r.now c.args.n c.requires.local found;
       fits = record { found = omega (arith, found); within = omega (arith, within, many); at = c.requires.placed.at };

@@ -1,4 +1,5 @@
--- Answers of clear: the revision has the same pass once its child or its joiner is handed in, or what it owes is entered.
+-- Answers of clear: the revision has the same pass once its child or its joiner is handed in,
+-- or what it owes is entered.
 use Rattle.std.proofs.Common.{subst}
 use Rattle.hub_workers.specs.Work.{HasBehind}
 use Rattle.hub_workers.specs.Handed.{OnlyBehind}

@@ -8,14 +8,16 @@ use Rattle.hub_workers.proofs.coming.settle.Goals as goal
 pub settle-requires-clause-met : goal.settle-requires-clause-met
 settle-requires-clause-met g c =
     let s = c.requires.state in
-    let met = have_met g.L.Revision.machine g.L.Revision.ends g.L.Legs.begins g.L.Legs.hand_group c.args.seat.now.place.me.0
+    let met = have_met g.L.Revision.machine g.L.Revision.ends g.L.Legs.begins g.L.Legs.hand_group
+    c.args.seat.now.place.me.0
     c.args.number s.0 s.1 c.args.hand.now s.4 c.requires.hand in
     (s.0, s.1, s.2, s.3, met)
 
 pub returns-in-Ok-Run-clause-next : goal.returns-in-Ok-Run-clause-next
 returns-in-Ok-Run-clause-next g c =
     let s = c.requires.state in
-    let met = have_met g.L.Revision.machine g.L.Revision.ends g.L.Legs.begins g.L.Legs.hand_group c.args.seat.now.place.me.0
+    let met = have_met g.L.Revision.machine g.L.Revision.ends g.L.Legs.begins g.L.Legs.hand_group
+    c.args.seat.now.place.me.0
     c.args.number s.0 s.1 c.args.hand.now s.4 c.requires.hand in
     let came = c.in-Ok-Run.ensures.state s.0 s.1 s.2 s.3 met in
     let is : g.L.Revision.machine.runs c.in-Ok-Run.runner ≡ g.L.Revision.machine.joined s.0 s.1 = search rules in
@@ -29,7 +31,8 @@ returns-in-Ok-Run-clause-next g c =
 pub enter-requires-clause-comes : goal.enter-requires-clause-comes
 enter-requires-clause-comes g c =
     let s = c.requires.state in
-    let met = have_met g.L.Revision.machine g.L.Revision.ends g.L.Legs.begins g.L.Legs.hand_group c.args.seat.now.place.me.0
+    let met = have_met g.L.Revision.machine g.L.Revision.ends g.L.Legs.begins g.L.Legs.hand_group
+    c.args.seat.now.place.me.0
     c.args.number s.0 s.1 c.args.hand.now s.4 c.requires.hand in
     let came = c.in-Ok-Trap.ensures.state s.0 s.1 s.2 s.3 met in
     let by : IsEndBy g.L.Revision.machine g.L.Revision.ends g.L.Revision.by_join true c.in-Ok-Trap.end

@@ -38,7 +38,8 @@ returns-in-Ok-fork-clause-next g c =
       behind_as g.L.Revision.machine g.L.Revision.ends c.fork.new.seat.place.me.0 c.args.number
           (g.L.Legs.forker c.args.at c.in-Ok-fork.child) (g.L.Revision.machine.runs c.told-runner.result) c.args.behind
           (forked_behind g.L.Revision.machine g.L.Revision.ends c.args.seat.now.place.me.0 c.fork.new.seat.place.me.0
-          c.args.number c.in-Ok-fork.child r.0 c.args.behind c.in-Ok.child (g.L.Legs.forker c.args.at) r.1 c.requires.may
+          c.args.number c.in-Ok-fork.child r.0 c.args.behind c.in-Ok.child (g.L.Legs.forker c.args.at) r.1
+          c.requires.may
           (r.2 ∙ ap (Bears (g.L.Legs.forker c.args.at)) (sym c.in-Ok.ensures.child)) c.in-Ok-fork.ensures.ok)
           (c.told-runner.ensures.state ∙ c.in-Ok.ensures.parent c.in-Ok-fork.child),
       c.told-runner.ensures.group

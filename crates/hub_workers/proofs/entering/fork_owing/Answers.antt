@@ -69,7 +69,8 @@ returns-in-Err-clause-same g c =
 
 pub returns-in-Err-clause-hand : goal.returns-in-Err-clause-hand
 returns-in-Err-clause-hand g c =
-    let same = halted_same g.L.Revision.machine g.L.Revision.ends c.args.seat.now.place.me.0 c.fork_behind.new.seat.place.me.0
+    let same = halted_same g.L.Revision.machine g.L.Revision.ends c.args.seat.now.place.me.0
+    c.fork_behind.new.seat.place.me.0
     c.args.joinee c.args.number c.requires.event.0 (c.in-Err.ensures.err.1 c.requires.event.0 c.requires.event.1) in
     let one = hand_on g.L.Legs.begins g.L.Legs.hand_group c.args.seat.now.place.me.0 c.args.hand.now c.split.new.hand
     c.requires.hand c.split.ensures.hand in
@@ -128,12 +129,15 @@ returns-in-Ok-fork_and_keep-clause-only g c = λ pair.
 pub returns-in-Err-fork_and_keep-clause-same : goal.returns-in-Err-fork_and_keep-clause-same
 returns-in-Err-fork_and_keep-clause-same g c =
     halted_same g.L.Revision.machine g.L.Revision.ends c.args.seat.now.place.me.0 c.fork_and_keep.new.seat.place.me.0
-    c.args.joinee c.args.number c.requires.event.0 (c.in-Err-fork_and_keep.ensures.err.1 c.requires.event.0 c.requires.event.1)
+    c.args.joinee c.args.number c.requires.event.0
+    (c.in-Err-fork_and_keep.ensures.err.1 c.requires.event.0 c.requires.event.1)
 
 pub returns-in-Err-fork_and_keep-clause-hand : goal.returns-in-Err-fork_and_keep-clause-hand
 returns-in-Err-fork_and_keep-clause-hand g c =
-    let same = halted_same g.L.Revision.machine g.L.Revision.ends c.args.seat.now.place.me.0 c.fork_and_keep.new.seat.place.me.0
-    c.args.joinee c.args.number c.requires.event.0 (c.in-Err-fork_and_keep.ensures.err.1 c.requires.event.0 c.requires.event.1) in
+    let same = halted_same g.L.Revision.machine g.L.Revision.ends c.args.seat.now.place.me.0
+    c.fork_and_keep.new.seat.place.me.0
+    c.args.joinee c.args.number c.requires.event.0
+    (c.in-Err-fork_and_keep.ensures.err.1 c.requires.event.0 c.requires.event.1) in
     let one = hand_on g.L.Legs.begins g.L.Legs.hand_group c.args.seat.now.place.me.0 c.args.hand.now c.split.new.hand
     c.requires.hand c.split.ensures.hand in
     hand_after g.L.Legs.begins g.L.Legs.hand_group c.args.seat.now.place.me.0 c.fork_and_keep.new.seat.place.me.0
@@ -142,4 +146,5 @@ returns-in-Err-fork_and_keep-clause-hand g c =
 pub returns-in-Err-fork_and_keep-clause-only : goal.returns-in-Err-fork_and_keep-clause-only
 returns-in-Err-fork_and_keep-clause-only g c = λ pair.
     halted_in g.L.Revision.machine g.L.Revision.ends c.args.seat.now.place.me.0 c.fork_and_keep.new.seat.place.me.0
-    c.args.joinee c.args.number c.requires.event.0 (c.in-Err-fork_and_keep.ensures.err.1 c.requires.event.0 c.requires.event.1)
+    c.args.joinee c.args.number c.requires.event.0
+    (c.in-Err-fork_and_keep.ensures.err.1 c.requires.event.0 c.requires.event.1)

@@ -12,4 +12,5 @@ use Rattle.leaf_entries.proofs.valid.has_kept.Given as goal
 abbrev pub invariant-loop-one : goal.invariant-loop-one
 invariant-loop-one l =
     (paths : List Path) → Names l.births paths
-    → (i : ℕ) (x : KeptValue) → i < l.one-index → slice_get l.read i ≡ Some x → IsHere (path_in paths) l.variables l.base x
+    → (i : ℕ) (x : KeptValue) → i < l.one-index → slice_get l.read i ≡ Some x
+    → IsHere (path_in paths) l.variables l.base x

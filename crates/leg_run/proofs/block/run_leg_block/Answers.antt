@@ -63,7 +63,8 @@ fetch-x-requires-in-Goes g c =
     c.act.new.notes q.1 a.steps n.noted e.marked c.act.new.words c.act.new.r _ _ _
     (few_locations _ _ _ _ v.size c.requires.size a.here.many) e.int a.same e.does e.stays).ahead in
     inside_now c.args.code.now c.requires.accepted c.args.inputs.now q.0 c.args.b.now d.now c.act.new.words
-    c.act.new.r _ _ d.here (ap (slice_get c.args.code.now.blocks) e.stays.block ∙ is) c.as_slice-instrs.result.now v.instrs
+    c.act.new.r _ _ d.here (ap (slice_get c.args.code.now.blocks) e.stays.block ∙ is) c.as_slice-instrs.result.now
+    v.instrs
 
 pub act-requires-clause-operand : goal.act-requires-clause-operand
 act-requires-clause-operand g c =

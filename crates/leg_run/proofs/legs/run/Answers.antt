@@ -70,7 +70,8 @@ go_on-requires-clause-stands g c = let a = c.loop-end.invariant.ahead in (a.0, a
 pub go_on-requires-clause-places : goal.go_on-requires-clause-places
 go_on-requires-clause-places g c =
     let a = c.loop-end.invariant.ahead in
-    places_still (count c.args.setting.now.code.vars) (count c.args.setting.now.code.vars) c.args.setting.now.inputs.items
+    places_still (count c.args.setting.now.code.vars) (count c.args.setting.now.code.vars)
+    c.args.setting.now.inputs.items
     c.args.notes.now c.loop-end.notes (marks_of (reads_of a.1)) refl a.3 c.requires.places
 
 pub go_on-requires-clause-on : goal.go_on-requires-clause-on

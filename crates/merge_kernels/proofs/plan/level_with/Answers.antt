@@ -14,6 +14,7 @@ returns-then-eq-clause-level c = λ some.
     let one : get_or choices start None ≡ get_or choices (start + 64) None = search rules in
     let same : choice_at choices start ≡ choice_at choices (start + 64) =
     ap the_choice (slice_get-get_or choices start None (omega (arith, behind.0)))
-    ∙ (one ∙ sym (ap the_choice (slice_get-get_or choices (start + 64) None (omega (arith, behind.0, c.if-behind-gt0.true))))) in
+    ∙ (one ∙ sym (ap the_choice
+    (slice_get-get_or choices (start + 64) None (omega (arith, behind.0, c.if-behind-gt0.true))))) in
     more_alike choices start 64 c.args.behind (c.is_level.ensures level)
     behind same

@@ -72,7 +72,8 @@ returns-clause-parent g c = λ st xs h.
     (subst (λ m.
     IsForker m (events.part c.args.setting.now.share c.args.revision.now.run.registers.fuel) c.args.revision.now.run
     c.leave_fork.new.run)
-    c.params_of-count.ensures (subst (λ m. IsForker c.params_of-count.result m c.args.revision.now.run c.leave_fork.new.run)
+    c.params_of-count.ensures
+    (subst (λ m. IsForker c.params_of-count.result m c.args.revision.now.run c.leave_fork.new.run)
     (c.part_of-fuel.ensures ∙ ap (λ s. events.part s c.args.revision.now.run.registers.fuel) c.share.ensures)
     c.in_ok-leave_fork.ensures.forker))
     c.in_ok-snapshot.ensures.kept

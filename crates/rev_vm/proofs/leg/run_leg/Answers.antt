@@ -1,4 +1,5 @@
--- Answers of run_leg: the leg of each state for which the revision stood has ended as its instructions have, so the event is its.
+-- Answers of run_leg: the leg of each state for which the revision stood has ended as its instructions have,
+-- so the event is its.
 use Rattle.std.proofs.Common.{◌∙◌, sym}
 use Rattle.rev_vm.specs.Starts.{run_under}
 use Rattle.rev_vm.proofs.Boxes.{same_at, same_some}
@@ -34,7 +35,8 @@ event_of-requires g c =
         come_to (run_under c.args.setting.now) c.deref_mut.result.now.run c.deref_mut.result.now.memory.delta
             (g.P.Snapshot.base c.deref_mut.result.now.memory.snapshot) c.deref_mut.result.now.memory.first.roots q.0 q.1
             c.in-Ok.end c.run_plain.new.revision.run c.run_plain.new.revision.memory.delta
-            (g.P.Snapshot.base c.run_plain.new.revision.memory.snapshot) c.run_plain.new.revision.memory.first.roots c.in-Ok.ensures.leg
+            (g.P.Snapshot.base c.run_plain.new.revision.memory.snapshot) c.run_plain.new.revision.memory.first.roots
+            c.in-Ok.ensures.leg
             (c.run_plain.new.revision.memory.written ∙ c.in-Ok.ensures.size ∙ sym c.deref_mut.result.now.memory.written
             ∙ q.1.size),
       );
@@ -48,6 +50,7 @@ returns-in-Ok-clause-event g c = λ st h0.
     (come_to (run_under c.args.setting.now) c.deref_mut.result.now.run c.deref_mut.result.now.memory.delta
     (g.P.Snapshot.base c.deref_mut.result.now.memory.snapshot) c.deref_mut.result.now.memory.first.roots st h
     c.in-Ok.end c.run_plain.new.revision.run c.run_plain.new.revision.memory.delta
-    (g.P.Snapshot.base c.run_plain.new.revision.memory.snapshot) c.run_plain.new.revision.memory.first.roots c.in-Ok.ensures.leg
+    (g.P.Snapshot.base c.run_plain.new.revision.memory.snapshot) c.run_plain.new.revision.memory.first.roots
+    c.in-Ok.ensures.leg
     (c.run_plain.new.revision.memory.written ∙ c.in-Ok.ensures.size ∙ sym c.deref_mut.result.now.memory.written
     ∙ h.size))

@@ -16,7 +16,8 @@ returns-else-not-has_row-clause-row c = λ did.
     let fits = row_fits (locations c.args.delta.now) c.args.written.now c.args.place row r c.requires.within in
     let long = c.row_words.ensures.length in
     let many : length c.row_words.result.now ≡ 64 = omega (arith, fits, long) in
-    let items : c.extend_from_slice.new.self.items ≡ c.args.words.now.items ++ c.row_words.result.now = search rules in (
+    let items : c.extend_from_slice.new.self.items ≡ c.args.words.now.items ++ c.row_words.result.now =
+    search rules in (
       r.within,
       λ base. items ∙ ap (λ ws. c.args.words.now.items ++ ws)
           (row_seen c.args.delta.now base c.args.written.now c.args.place row c.row_words.result.now r many

@@ -1,4 +1,5 @@
--- Answers of run_leg_noting: the leg of each state for which the revision stood has ended as its instructions have, so the event is its.
+-- Answers of run_leg_noting: the leg of each state for which the revision stood has ended as its instructions have,
+-- so the event is its.
 use Rattle.std.proofs.Common.{◌∙◌, sym}
 use Rattle.std.proofs.lemmas.Result.{IfOk-weaker}
 use Rattle.rev_vm.specs.Starts.{run_under}
@@ -36,7 +37,8 @@ event_of-requires g c =
         come_to (run_under c.args.setting.now) c.deref_mut.result.now.run c.deref_mut.result.now.memory.delta
             (g.P.Snapshot.base c.deref_mut.result.now.memory.snapshot) c.deref_mut.result.now.memory.first.roots q.0 q.1
             c.in-Ok.end c.run_noting.new.revision.run c.run_noting.new.revision.memory.delta
-            (g.P.Snapshot.base c.run_noting.new.revision.memory.snapshot) c.run_noting.new.revision.memory.first.roots c.in-Ok.ensures.leg
+            (g.P.Snapshot.base c.run_noting.new.revision.memory.snapshot) c.run_noting.new.revision.memory.first.roots
+            c.in-Ok.ensures.leg
             (c.run_noting.new.revision.memory.written ∙ c.in-Ok.ensures.size ∙ sym c.deref_mut.result.now.memory.written
             ∙ q.1.size),
       );
@@ -50,7 +52,8 @@ returns-in-Ok-clause-event g c = λ st h0.
     (come_to (run_under c.args.setting.now) c.deref_mut.result.now.run c.deref_mut.result.now.memory.delta
     (g.P.Snapshot.base c.deref_mut.result.now.memory.snapshot) c.deref_mut.result.now.memory.first.roots st h
     c.in-Ok.end c.run_noting.new.revision.run c.run_noting.new.revision.memory.delta
-    (g.P.Snapshot.base c.run_noting.new.revision.memory.snapshot) c.run_noting.new.revision.memory.first.roots c.in-Ok.ensures.leg
+    (g.P.Snapshot.base c.run_noting.new.revision.memory.snapshot) c.run_noting.new.revision.memory.first.roots
+    c.in-Ok.ensures.leg
     (c.run_noting.new.revision.memory.written ∙ c.in-Ok.ensures.size ∙ sym c.deref_mut.result.now.memory.written
     ∙ h.size))
 
@@ -59,6 +62,7 @@ returns-in-Ok-clause-noted g c = λ st h.
     IfOk-weaker c.event_of.result _ _ (λ _ _.
     noted_at (run_under c.args.setting.now) c.deref_mut.result.now.run c.deref_mut.result.now.memory.delta
     (g.P.Snapshot.base c.deref_mut.result.now.memory.snapshot) c.deref_mut.result.now.memory.first.roots st
-    (same_at (sym c.deref_mut.ensures.value) (run_under c.args.setting.now) st (c.in_ok-revision.ensures.state st h)) c.args.noted.now
+    (same_at (sym c.deref_mut.ensures.value) (run_under c.args.setting.now) st (c.in_ok-revision.ensures.state st h))
+    c.args.noted.now
     c.run_noting.new.noted c.in-Ok.ensures.noted)
     c.event_of.ensures.group

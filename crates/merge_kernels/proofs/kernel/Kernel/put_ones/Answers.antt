@@ -1,4 +1,5 @@
--- Answers of Kernel::put_ones: a location more is put, and one with a fault leaves what was put. The box that is called is the one
+-- Answers of Kernel::put_ones: a location more is put, and one with a fault leaves what was put.
+-- The box that is called is the one
 -- that the facts are of.
 use Rattle.std.proofs.Common.{rules, ◌≡◌, ◌∙◌, ◌+◌, ap, sym, refl, subst, ℤ, true, Ok, of_z, to_z, w64, arith}
 use Rattle.std.proofs.lemmas.Int.{ints}
@@ -48,7 +49,8 @@ loop-k-preserved g c =
     let word =
     ap Ok (c.word_of_int.ensures.value ∙ ap word_of (passed c.in-Ok.value back))
     ∙ (ap word_answer (sym c.in-Ok.is ∙ is)
-    ∙ (λ i. word_answer (answer_of e ((m ∙ c.int_of_word-main.ensures.value) i) ((j ∙ c.int_of_word-join.ensures.value) i)
+    ∙ (λ i. word_answer (answer_of e ((m ∙ c.int_of_word-main.ensures.value) i)
+    ((j ∙ c.int_of_word-join.ensures.value) i)
     ((r ∙ c.int_of_word-root.ensures.value) i)))) in (
       length-set c.loop-k.values (c.args.at + c.loop-k.k) c.word_of_int.result ∙ c.loop-k.invariant.0,
       λ m first f v.

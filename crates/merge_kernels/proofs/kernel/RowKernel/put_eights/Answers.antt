@@ -1,4 +1,5 @@
--- Answers of RowKernel::put_eights: an eight more is put, by the numbers of its words. The box that is called is the one that the
+-- Answers of RowKernel::put_eights: an eight more is put, by the numbers of its words.
+-- The box that is called is the one that the
 -- facts are of.
 use Rattle.std.proofs.Common.{rules, ◌≡◌, ◌∙◌, ◌+◌, ◌*◌, ap, sym, refl, subst, length, map, arith}
 use Rattle.std.proofs.lemmas.List.{length-map}
@@ -23,7 +24,8 @@ loop-eight-preserved g c =
     subst (λ p. (g.dyn-1.0.entry p.0).1.post p.1 (main, (join, (root, tt {0}))) c.call.result)
     c.deref_box-1.ensures.1 c.call.ensures.0 in
     let is =
-    c.args.self.now.answers main join root c.ints_of.ensures.lanes c.ints_of-in-loop-eight.ensures.lanes c.ints_of-in-loop-eight-2.ensures.lanes
+    c.args.self.now.answers main join root c.ints_of.ensures.lanes c.ints_of-in-loop-eight.ensures.lanes
+    c.ints_of-in-loop-eight-2.ensures.lanes
     c.call.result posted in
     let eight : length c.in-Some.ints ≡ 8 = search rules in
     let row =
@@ -36,7 +38,8 @@ loop-eight-preserved g c =
     let next : done + 8 ≡ 8 * (c.loop-eight.eight + 1) = omega arith in (
       c.put_lanes.ensures.length ∙ c.loop-eight.invariant.0,
       λ m first f v.
-          subst (λ n. HasPut m c.args.mains.now c.args.written.now c.args.at n c.args.values.now c.put_lanes.new.values) next
+          subst (λ n. HasPut m c.args.mains.now c.args.written.now c.args.at n c.args.values.now c.put_lanes.new.values)
+          next
           (one_more e m c.args.mains.now c.args.written.now c.args.at first (8 * c.args.eights) done
           c.args.values.now c.loop-eight.values c.put_lanes.new.values
           c.requires.mains c.requires.inside (omega arith) f v (c.loop-eight.invariant.1 m first f v) row),

@@ -8,5 +8,6 @@ returns-then-level_from-ge8 g c =
     let many = c.level_from.result in
     let enough : 8 ≤ many = omega (arith, c.if-level_from-ge8.true) in
     like_row c.args.self.now.choices.items c.args.first c.args.n c.requires
-    (part_alike c.args.self.now.choices.items c.args.first many c.args.first 8 (c.level_from.ensures (omega (arith, enough))) (omega arith)
+    (part_alike c.args.self.now.choices.items c.args.first many c.args.first 8
+    (c.level_from.ensures (omega (arith, enough))) (omega arith)
     (omega (arith, enough)) (omega arith))

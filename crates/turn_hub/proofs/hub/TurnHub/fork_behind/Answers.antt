@@ -116,7 +116,8 @@ returns-clause-turn g c =
 pub returns-then-not-settle_in-clause-turn : goal.returns-then-not-settle_in-clause-turn
 returns-then-not-settle_in-clause-turn g c =
     let by : c.settle_in.result ≡ false = search rules in
-    halted_turn c.args.seat.now.place.me.0 c.settle_in.new.place.me.0 c.put_home_halted-then-not-settle_in.new.place.me.0
+    halted_turn c.args.seat.now.place.me.0 c.settle_in.new.place.me.0
+    c.put_home_halted-then-not-settle_in.new.place.me.0
     (ap (λ v. v.turns) (c.settle_in.ensures.none by) ∙ c.enter-turn.ensures.told.turns)
     (ap (λ m. m.0) c.put_home_halted-then-not-settle_in.ensures.rests)
 

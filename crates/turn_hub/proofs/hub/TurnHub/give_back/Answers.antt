@@ -33,7 +33,8 @@ returns-then-is_some-clause-err g c = (
 pub returns-clause-turn : goal.returns-clause-turn
 returns-clause-turn g c =
     rested_turn c.args.seat.now.place.me.0 c.back_in.new.place.me.0 c.put_home.new.place.me.0
-    (ap (λ v. v.turns) c.back_in.ensures.view ∙ c.enter-turn.ensures.told.turns) (ap (λ m. m.0) c.put_home.ensures.rests)
+    (ap (λ v. v.turns) c.back_in.ensures.view ∙ c.enter-turn.ensures.told.turns)
+    (ap (λ m. m.0) c.put_home.ensures.rests)
 
 pub returns-then-is_some-clause-turn : goal.returns-then-is_some-clause-turn
 returns-then-is_some-clause-turn g c =

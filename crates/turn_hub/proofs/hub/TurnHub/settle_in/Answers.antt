@@ -73,7 +73,8 @@ returns-clause-hand g c =
     ≡ (c.args.turn.now.schedule.items ++ c.args.joinee ∷ []) ++ c.args.of ∷ [] = search rules in
     let now = c.end_joined.ensures.now ∙ ap (λ r. put_number r.slots.items c.args.joinee Gone) same.0 in
     let forkers = c.end_joined.ensures.forkers ∙ ap (λ r. r.forkers.items) same.0 in
-    let ends = subst (λ r. EndsOne r.queue c.end_joined.new.self.queue c.args.joinee) same.0 c.end_joined.ensures.queue in
+    let ends = subst (λ r. EndsOne r.queue c.end_joined.new.self.queue c.args.joinee) same.0
+    c.end_joined.ensures.queue in
     let queued =
     queue_gone g.L.Revision.machine _ owes.last told.hand.holds.queued (still_out _ _ _ _ told owes.ended.3) ends in
     moved_hand _ _ (settled _ _ _ _ c.args.turn.now _ _ _ _ _ told c.requires.free owes.ended owes.joins owes.on
@@ -97,7 +98,8 @@ returns-clause-joined g c = λ _ v l told owes.
     ≡ (c.args.turn.now.schedule.items ++ c.args.joinee ∷ []) ++ c.args.of ∷ [] = search rules in
     let now = c.end_joined.ensures.now ∙ ap (λ r. put_number r.slots.items c.args.joinee Gone) same.0 in
     let forkers = c.end_joined.ensures.forkers ∙ ap (λ r. r.forkers.items) same.0 in
-    let ends = subst (λ r. EndsOne r.queue c.end_joined.new.self.queue c.args.joinee) same.0 c.end_joined.ensures.queue in
+    let ends = subst (λ r. EndsOne r.queue c.end_joined.new.self.queue c.args.joinee) same.0
+    c.end_joined.ensures.queue in
     let queued =
     queue_gone g.L.Revision.machine _ owes.last told.hand.holds.queued (still_out _ _ _ _ told owes.ended.3) ends in
     let is =

@@ -6,7 +6,8 @@ use Rattle.turn_hub.proofs.hub.TurnHub.take_runner.Goals as goal
 pub empty-requires : goal.empty-requires
 empty-requires g c =
     let f = c.requires.first in
-    let run = is_runner g.L.Revision.machine g.L.Revision.ends c.args.turn.value c.take_next.result f.0 c.take_next.ensures.first f.1 f.2 in
+    let run = is_runner g.L.Revision.machine g.L.Revision.ends c.args.turn.value c.take_next.result f.0
+    c.take_next.ensures.first f.1 f.2 in
     search rules
 
 pub returns-clause-first : goal.returns-clause-first

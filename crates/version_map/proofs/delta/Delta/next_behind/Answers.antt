@@ -20,12 +20,14 @@ returns-in_default-next_bit c =
 pub overflow_cast-result : goal.overflow_cast-result
 overflow_cast-result c =
     let d = c.args.self.now in let f = c.in-Some-next_bit.ensures.found in let n = c.in-Some.ensures in
-    let next = next_in_row d (c.args.row + 1) c.in-Some.next c.mask_row.result c.in-Some-next_bit.k n.0 n.3 c.mask_row.ensures f.1
+    let next = next_in_row d (c.args.row + 1) c.in-Some.next c.mask_row.result c.in-Some-next_bit.k n.0 n.3
+    c.mask_row.ensures f.1
     f.2 c.in-Some-next_bit.ensures.between in
     let within = next.1 in let few = d.sized.1 in omega (arith, within, few)
 
 pub returns : goal.returns
 returns c =
     let d = c.args.self.now in let f = c.in-Some-next_bit.ensures.found in let n = c.in-Some.ensures in
-    next_in_row d (c.args.row + 1) c.in-Some.next c.mask_row.result c.in-Some-next_bit.k n.0 n.3 c.mask_row.ensures f.1 f.2
+    next_in_row d (c.args.row + 1) c.in-Some.next c.mask_row.result c.in-Some-next_bit.k n.0 n.3 c.mask_row.ensures f.1
+    f.2
     c.in-Some-next_bit.ensures.between

@@ -14,11 +14,13 @@ returns-in-Some c =
       f.0,
       subst (λ (n : ℕ). row < n) (mask_long d) (row_inside (mask_of d) row some),
       some,
-      λ r lo hi. summary_zero d.summary r (mask_of d) d.summed (omega (arith, hi, high)) (c.in-Some.ensures.between r lo hi),
+      λ r lo hi. summary_zero d.summary r (mask_of d) d.summed (omega (arith, hi, high))
+          (c.in-Some.ensures.between r lo hi),
     )
 
 pub returns-in-None : goal.returns-in-None
 returns-in-None c =
     let d = c.args.self.now in
     next_row_later d c.args.from 64 c.look_for_row-in-None.result (omega arith)
-    (λ r lo hi. summary_zero d.summary r (mask_of d) d.summed hi (c.in-None.ensures.none r lo)) c.look_for_row-in-None.ensures
+    (λ r lo hi. summary_zero d.summary r (mask_of d) d.summed hi (c.in-None.ensures.none r lo))
+    c.look_for_row-in-None.ensures

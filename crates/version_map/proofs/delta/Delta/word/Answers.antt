@@ -11,4 +11,5 @@ returns c =
     let d = c.args.self.now in let l = c.args.location in
     let sized = d.sized.0 in let lt = c.requires.inside in
     chosen_some (bit_in (mask_of d) l) (get_or d.cells.items l 0) c.requires.some
-    ∙ ap Some (sym (get_or_read_under d.cells.items l d.cells.len _ 0 c.index.ensures (omega (arith, sized, lt)) d.cells.ok.0))
+    ∙ ap Some (sym (get_or_read_under d.cells.items l d.cells.len _ 0 c.index.ensures (omega (arith, sized, lt))
+    d.cells.ok.0))
