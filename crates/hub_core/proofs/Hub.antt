@@ -308,9 +308,6 @@ module _ (N : Numbered) (V : Values N) where
       forked = one_forker;
     }
 
-    NoLeg : Entries N.Local → ℕ → Type 0
-    NoLeg w n = (x : Path × Entry N.Local) → at_number w n ≡ Some x → leg_at N w n (Some x) ≡ None
-
     pub complete : (schedule : List ℕ) (hub : Statuses N V) (fs : List ℕ) (t : T schedule hub fs) → all_ended N V hub
         → IsOver N main (Listing t.world)
     complete schedule hub fs t all n = of_entry (at_number t.world n) refl

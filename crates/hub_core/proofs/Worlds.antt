@@ -1,23 +1,19 @@
 -- What a seat knows of the world that the hub kept when it gave its turn back.
-use Rattle.std.proofs.Common.{◌≡◌, ⊎_elim, ℕ, ◌<◌, ◌≤◌, List, [], ◌∷◌, ◌++◌, sym, ap, ◌∙◌, subst, arith, Some}
+use Rattle.std.proofs.Common.{◌≡◌, ⊎_elim, ℕ, ◌<◌, List, [], ◌∷◌, ◌++◌, sym, ap, ◌∙◌, subst, arith, Some}
 use mathlib.Core.Logic.{dite}
 use native.Mathlib.Decide.{ℕ_discrete}
 use Rattle.revision_machine.proofs.Paths.{some_inj}
 use Rattle.hub_core.specs.Replay.{state_after}
 use Rattle.hub_core.specs.Hub.{Tied, Meets, EndsLeg, Joins}
 use Rattle.hub_core.specs.HubMachine.{HubMachine, numbered, values}
-use Rattle.hub_core.specs.declared.value.Turn.{Turn}
-use Rattle.hub_core.specs.declared.state.HubState.TheVariants.{All}
-use Rattle.hub_core.specs.Counts.{times, is_at}
+use Rattle.hub_core.specs.Counts.{is_at}
 use Rattle.hub_core.specs.declared.view.View.{View}
-use Rattle.hub_core.specs.Passes.{Pass, named, left, IsPass, Fresh}
-use Rattle.hub_core.specs.Views.{commits, hands_in, draws, rests}
+use Rattle.hub_core.specs.Passes.{Pass, named, left, IsPass}
+use Rattle.hub_core.specs.Views.{commits, hands_in, draws}
 use Rattle.hub_core.specs.Seats.{HasJoin, HasEnd, HasCurrent, HasWorld}
-use Rattle.hub_core.specs.Rule.{InHand, Told}
 use Rattle.hub_core.proofs.Lists.{is_at_same, is_at_other}
-use Rattle.hub_core.proofs.Passes.{count_gone, count_other, left_pass, pass_named, since_more, since_now}
+use Rattle.hub_core.proofs.Passes.{count_gone, count_other, left_pass, since_more, since_now}
 use Rattle.hub_core.proofs.Hub as hub
-use Rattle.hub_core.proofs.Turns.{some_start, tied_of, out_here}
 
 module _ {L : Type 0} where
   pub current_in : (k : ℕ) (v : View L) → HasCurrent v → HasCurrent (hands_in k v)
@@ -63,26 +59,6 @@ module _ {L : Type 0} where
   )
 
 module _ {L R A E : Type 0} (d : HubMachine L R A E) (ends : E → L → Type 0) where
-  pub told_current : {v w : View L} {t : Turn R A E} → Told d ends v w t → HasCurrent w
-  told_current {v} {w} told =
-      subst (λ ps. Fresh w.log ps × ((j : ℕ) → named j ps ≤ times j w.out)) (sym told.passes) (told.fresh, told.mine)
-
-  pub world_now : (u : View L) (t : Turn R A E) → InHand d ends u t → t.state ≡ All → HasCurrent u
-      → HasWorld d ends (rests u)
-  world_now u t h none current =
-      let start = some_start d ends u.start t.state u.log t.revisions.slots.items t.revisions.forkers.items
-      h.holds.sound in
-      record {
-        start = start.0;
-        begun = start.1;
-        slots = t.revisions.slots.items;
-        forkers = t.revisions.forkers.items;
-        tied = tied_of d ends u t start.0 h start.1 none;
-        fresh = current.0;
-        out = λ k at p.
-            let a = pass_named u.passes k at p in let b = current.1 k in out_here d ends u t k h (omega arith);
-      }
-
   -- the state of a pass is that of its revision in this world
   state_then : (v : View L) (w : HasWorld d ends v) (k : ℕ) (at : List ℕ) (s l : L) → v.start ≡ Some s
       → IsPass v.passes k at → state_after (numbered d) s at k ≡ Some l

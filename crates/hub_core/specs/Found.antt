@@ -1,7 +1,6 @@
 -- Which revisions of a list of statuses have ended, and which are ready.
 --   ended_here    its end was handed in
 --   is_ready      a leg of it can come next
---   has_runner    it is before a leg, and no seat has it
 --   all_over      all have ended
 use Rattle.std.specs.Prelude.{Bool, true, false, Option, Some, None, List, [], ◌∷◌}
 use Rattle.revision_machine.specs.Numbered.{at_number}
@@ -18,15 +17,6 @@ module _ {R A E : Type 0} where
   ended_here (Some (Waiting a)) = false
   ended_here (Some (Over e)) = true
   ended_here (Some Gone) = true
-
-  -- no seat has it, and it waits for nobody
-  abbrev pub has_runner : Option (Status R A E) → Bool
-  has_runner None = false
-  has_runner (Some (Ready r)) = true
-  has_runner (Some Out) = false
-  has_runner (Some (Waiting a)) = false
-  has_runner (Some (Over e)) = false
-  has_runner (Some Gone) = false
 
   -- no seat has it, and it is no joiner whose joinee has not ended
   abbrev pub is_ready :

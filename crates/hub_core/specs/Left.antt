@@ -1,5 +1,5 @@
 -- What a list of statuses leaves: the runners and joiners that no seat has.
-use Rattle.std.specs.Prelude.{◌≡◌, List, [], ◌∷◌, Option, Some, None}
+use Rattle.std.specs.Prelude.{List, [], ◌∷◌, Option, Some, None}
 use Rattle.hub_core.specs.declared.status.Status.{Status}
 use Rattle.hub_core.specs.declared.status.Status.TheVariants.{Ready, Out, Waiting, Over, Gone}
 use Rattle.hub_core.specs.declared.kept.Kept.{Kept}
@@ -20,6 +20,3 @@ module _ {R A E : Type 0} where
   kept_of (Waiting a ∷ slots) = left.Join a ∷ kept_of slots
   kept_of (Over e ∷ slots) = kept_of slots
   kept_of (Gone ∷ slots) = kept_of slots
-
-  abbrev pub IsReadyAlone : List (Status R A E) → Type 0
-  IsReadyAlone slots = (r : R) × (slots ≡ Ready r ∷ [])

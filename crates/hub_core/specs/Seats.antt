@@ -1,8 +1,5 @@
 -- What a seat has: the passes of revisions, whose states are those of the hub's replay.
---   IsIdle, IsResting                   it has not the turn, or no more
---   AreOf, AreNew                       seats of one hub, and as its opening makes them
 --   HadTurn v w                         the seat had one turn between the two, and left that schedule
---   AreBehind log ss                    the schedule begins with each that one of the seats left
 --   HasState v k l                      it has the pass of the revision k, whose state is l
 --   HasFork, HasJoin, HasEnd, HasTrap   what is handed in is the event of that revision's leg
 --   KeepsOthers, KeepsAll               the other passes, or all, are as they were, and so is a halt that it knew of
@@ -11,10 +8,7 @@
 --   HasWorld v                          what the hub kept when the seat gave its turn back
 --   Owes v m k l                        the joiner k has taken in the end of m, is in this state,
 --   and neither is an entry yet
-use Rattle.std.specs.Prelude.{◌≡◌, ◌≢◌, ℕ, ◌<◌, ◌≤◌, List, [], ◌∷◌, ◌++◌, Option, Some}
-use Rattle.atomic_table.specs.Seated.{TableId}
-use Rattle.atomic_table.specs.Table.{Me}
-use Rattle.atomic_table.specs.declared.shared.Seat.{Seat}
+use Rattle.std.specs.Prelude.{◌≡◌, ◌≢◌, ℕ, ◌≤◌, List, [], ◌∷◌, ◌++◌, Some}
 use Rattle.revision_machine.specs.Numbered.{at_number}
 use Rattle.hub_core.specs.declared.status.Status.{Status}
 use Rattle.hub_core.specs.declared.status.Status.TheVariants.{Out}
@@ -24,35 +18,7 @@ use Rattle.hub_core.specs.Hub.{Tied, Forks, Joins, EndsLeg, WasTrapped}
 use Rattle.hub_core.specs.HubMachine.{HubMachine, numbered, values}
 use Rattle.hub_core.specs.declared.state.HubState.TheVariants.{All}
 use Rattle.hub_core.specs.declared.view.View.{View}
-use Rattle.hub_core.specs.Passes.{IsPass, AreStartsOf, Fresh, named}
-
-module _ {S L : Type 0} where
-  abbrev pub IsIdle : Me S (View L) → Type 0
-  IsIdle me = (me.0.has ≡ 0) × (me.1 ≡ []) × (0 < me.0.parts)
-
-  -- it had the turn and has it no more
-  abbrev pub IsResting : Me S (View L) → Me S (View L) → Type 0
-  IsResting me me' =
-      (me'.0.has ≡ 0) × (me'.1 ≡ []) × (me'.0.parts ≡ me.0.parts)
-      × (me'.0.turns ≡ me'.0.log ∷ me.0.turns)
-
-module _ {S L : Type 0} where
-  -- seats of this hub
-  abbrev pub AreOf : TableId → List (Seat S (View L)) → Type 0
-  AreOf id [] = Unit {0}
-  AreOf id (s ∷ ss) = (s.table_id ≡ id) × AreOf id ss
-
-  -- the schedule begins with each that one of these left at the end of a turn
-  abbrev pub AreBehind : List ℕ → List (Seat S (View L)) → Type 0
-  AreBehind log [] = Unit {0}
-  AreBehind log (s ∷ ss) = AreStartsOf log s.me.0.turns × AreBehind log ss
-
-  -- as `open` makes them: of this start and group, with no pass
-  abbrev pub AreNew : Option L → List ℕ → List (Seat S (View L)) → Type 0
-  AreNew start group [] = Unit {0}
-  AreNew start group (s ∷ ss) =
-      (s.me.0.start ≡ start) × (s.me.0.group ≡ group) × (s.me.0.passes ≡ []) × (s.me.0.saw ≡ 0)
-      × (s.me.0.halt ≡ All) × AreNew start group ss
+use Rattle.hub_core.specs.Passes.{IsPass, Fresh, named}
 
 module _ {L : Type 0} where
   -- what no call changes

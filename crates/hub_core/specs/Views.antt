@@ -11,7 +11,7 @@ use Rattle.hub_core.specs.declared.state.HubState.TheVariants.{All, Twice, NoMem
 use Rattle.hub_core.specs.declared.view.Said.{Said}
 use Rattle.hub_core.specs.declared.view.Said.TheVariants as mark
 use Rattle.hub_core.specs.declared.view.View.{View}
-use Rattle.hub_core.specs.Passes.{Pass, named, left, without}
+use Rattle.hub_core.specs.Passes.{Pass, left, without}
 
 -- its end was handed in
 abbrev pub ended_said : Option Said → Bool
@@ -87,23 +87,6 @@ module _ {L : Type 0} where
 
   abbrev pub opens : ℕ → Option L → List ℕ → View L
   opens parts start group = view parts start group 0 [] [] [] 0 All [] All [] []
-
-  abbrev pub parts_of : View L → ℕ
-  parts_of v = v.parts
-
-  abbrev pub has_turn : View L → ℕ
-  has_turn v = v.has
-
-  abbrev pub halts : View L → ℕ
-  halts v = halt_count v.halt
-
-  abbrev pub names : ℕ → View L → ℕ
-  names n v = named n v.passes
-
-  -- the first seat's view, from the badge that is the key
-  abbrev pub first_of : List (View L) → View L
-  first_of [] = blank
-  first_of (v ∷ vs) = opens v.parts v.start v.group
 
   abbrev pub commits : ℕ → View L → View L
   commits k v =

@@ -28,8 +28,8 @@ pub fn marked(mark: u64) -> u64
     mark / EACH_MARKED
 }
 
-// So many lists, of which there is at most one too few.
-fn cover(waiters: &mut Vec<Option<Chain>>, many: usize)
+/// So many lists, of which there is at most one too few.
+pub fn cover(waiters: &mut Vec<Option<Chain>>, many: usize)
     requires few { many ≤ length waiters.old.items + 1 }
     requires room { vec_len waiters.old < vec_capacity waiters.old }
     ensures reach { many ≤ length waiters.new.items }
@@ -79,28 +79,7 @@ impl RunQueue {
         self.links.try_reserve(1).is_ok() && self.waiters.try_reserve(1).is_ok()
     }
 
-    /// One more number, the next, which is ready, and the first of those.
-    pub fn add(&mut self, number: u32)
-        requires next { number ≡ length self.old.links.items }
-        requires reach { length self.old.links.items ≤ length self.old.waiters.items }
-        requires room { (vec_len self.old.links < vec_capacity self.old.links)
-            × (vec_len self.old.waiters < vec_capacity self.old.waiters) }
-        requires few { self.old.unfinished ≤ 2 ^ 32 }
-        ensures lists { Adds self.old self.new number }
-        ensures first { is_first self.new.ready number ≡ true }
-        ensures count { self.new.unfinished ≡ self.old.unfinished + 1 }
-        ensures many { length self.new.links.items ≡ length self.old.links.items + 1 }
-        ensures reach { length self.new.links.items ≤ length self.new.waiters.items }
-    {
-        append(&mut self.links, 0);
-        cover(&mut self.waiters, self.links.len());
-        let chain = before(&mut self.links, number, self.ready);
-        self.ready = Some(chain);
-        self.unfinished += 1;
-        self.many = self.many.saturating_add(1);
-    }
-
-    /// A number that stands in no list is ready again, and the first of those.
+    /// A number that stands in no list is ready, and the first of those.
     pub fn put_first(&mut self, number: u32)
         requires { number < length self.old.links.items }
         ensures lists { Adds self.old self.new number }

@@ -2,7 +2,7 @@
 use crate::HubState;
 use std::collections::LinkedList;
 
-/// What a seat found of a revision when it took the turn.
+/// What a seat found of a revision at the moment at which it last made changes.
 pub enum Said {
     /// No seat has it, and it waits for nobody.
     Ready,
@@ -34,10 +34,11 @@ pub struct View<S> {
     // 1 once it saw that all is over, and the halt that it knows of.
     pub saw: u64,
     pub halt: HubState,
-    // What it found when it last took the turn: of each revision, of halts, and the schedule.
+    // What it found at the moment of its last turn or round: of each revision, of halts, and the schedule.
     pub said: LinkedList<Said>,
     pub entered: HubState,
     pub found: LinkedList<u64>,
-    // The schedule as it left it at the end of each of its turns, the last first.
+    // The schedule as it left it at the end of each of its turns and by each of its rounds, the last
+    // first.
     pub turns: LinkedList<LinkedList<u64>>,
 }

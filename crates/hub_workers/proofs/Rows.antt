@@ -8,7 +8,7 @@ use Rattle.hub_core.specs.declared.revision.Revision.{Ghosts}
 use Rattle.turn_hub.specs.declared.seat.HubSeat.{HubSeat}
 use Rattle.turn_hub.specs.Closing.{saw_of}
 use Rattle.turn_hub.specs.Names.{IsSeatOf, AreSeatsOf, view_of, began, places}
-use Rattle.hub_core.specs.Seats.{AreNew}
+use Rattle.turn_hub.specs.Seats.{AreNew}
 use Rattle.hub_workers.specs.Running.{IsSeatFor}
 
 module _ {M S R A E C P : Type 0} {g : Ghosts M S R A E C P} where

@@ -17,35 +17,45 @@ use turn_hub::TurnHub;
 /// who makes revisions ready does not pay for it.
 ///
 /// No revision that is ready is lost:
-/// - A thread reads the count of rings, then looks for work, then counts itself as a sleeper, and
-///   then sleeps only if the hub's mark tells that nothing is ready and the count of rings is the
+/// - A thread reads the count of calls, then looks for work, then counts itself as a sleeper, and
+///   then sleeps only if the hub's mark tells that nothing is ready and the count of calls is the
 ///   same. Who rings made its revision ready, so that the mark tells of it, and then looks for
-///   sleepers and for a scout; it counts the ring where it finds one. So one of the two sees the
-///   other. Where all threads have work to do, nobody writes to the bell.
-/// - Who rings and sees a scout leaves its revision to that: a scout that stops being one does so
-///   first, and then looks whether something is ready, or takes from the hub.
+///   sleepers and for a scout. So one of the two sees the other. Where all threads have work to do,
+///   nobody writes to the bell.
+/// - Who rings and sees a scout counts the ring and leaves its revision to that: a scout that stops
+///   being one does so first, and then looks whether something is ready, or takes from the hub.
 /// - Who makes a thread the scout has a sleeper: it looks for one again after it has said that
-///   there is a scout, and only then counts its wake as a ring, and wakes. A sleeper that it saw
-///   either sleeps by then, so that the wake reaches one, or finds another count of rings. So
-///   there is no scout that nobody is.
+///   there is a scout, and only then counts its call, and wakes. A sleeper that it saw either sleeps
+///   by then, so that the wake reaches one, or finds another count of calls. So there is no scout
+///   that nobody is.
 /// - A scout that stays one naps for some milliseconds at most, and then looks again. It leaves a
 ///   revision that is ready to the threads that run only while they make others ready all the time,
 ///   and while fewer than two for each thread are ready. Once that is not so, it takes from the hub
 ///   after its next nap or the one after that.
 /// - Two threads can be the scout where one returned from its sleep for no reason. The first that
 ///   finds something then says that there is none, and somebody is woken too early.
+///
+/// A child that its forker's thread keeps is not ready, so nobody rings for it. A thread that has
+/// slept for a while with nothing ready asks for one, and sleeps on. The next forker that would keep
+/// its child makes that ready in its place, and rings: one child for each time that was asked. Who
+/// asked and found nothing in the end asks later the next time. So a loop of tiny revisions gives
+/// one of some thousands away, and long ones come to a thread that is idle.
 #[derive(Drop)]
 pub struct Bell {
     // How many threads work at the hub.
     workers: u64,
     rings: AtomicU64,
+    // How often a thread was woken, or all were. Sleepers sleep on it.
+    calls: AtomicU64,
     sleepers: AtomicU64,
     scouted: AtomicBool,
+    // A sleeper asks for a child that would be kept.
+    asked: AtomicBool,
     // 1 where all is over. Scouts sleep on it.
     over: AtomicU64,
 }
 
-// The bits of the count of rings that a sleep compares.
+// The bits of the count of calls that a sleep compares.
 fn low_bits(count: u64) -> u32
     ensures { result ≡ count % 2 ^ 32 }
 {
@@ -65,14 +75,21 @@ impl Bell {
         Bell {
             workers: workers as u64,
             rings: AtomicU64::new(0),
+            calls: AtomicU64::new(0),
             sleepers: AtomicU64::new(0),
             scouted: AtomicBool::new(false),
+            asked: AtomicBool::new(false),
             over: AtomicU64::new(0),
         }
     }
 
     /// What a thread remembers before it looks for work. No clause rests on what it answers, which
     /// only chooses whether a thread sleeps.
+    pub fn called(&self) -> u64 {
+        self.calls.load(Ordering::SeqCst)
+    }
+
+    /// How often it rang while there was a scout.
     pub fn heard(&self) -> u64 {
         self.rings.load(Ordering::SeqCst)
     }
@@ -82,15 +99,15 @@ impl Bell {
         if self.has_scout() {
             self.rings.fetch_add(1, Ordering::SeqCst);
         } else if self.has_sleepers() {
-            self.rings.fetch_add(1, Ordering::SeqCst);
             self.wake_scout();
         }
     }
 
-    /// Whether a thread sleeps, or looks for work. No clause rests on what it answers, which only
-    /// chooses whether a forker keeps its child.
-    pub fn has_idle(&self) -> bool {
-        self.has_scout() || self.has_sleepers()
+    /// Whether a thread that sleeps asks for a child that its forker's thread would keep. Of those
+    /// that look, one is told. No clause rests on what it answers, which only chooses whether a
+    /// forker keeps its child.
+    pub fn is_asked(&self) -> bool {
+        self.asked.load(Ordering::SeqCst) && self.asked.swap(false, Ordering::SeqCst)
     }
 
     fn has_sleepers(&self) -> bool {
@@ -107,8 +124,8 @@ impl Bell {
             return;
         }
         if self.has_sleepers() {
-            self.rings.fetch_add(1, Ordering::SeqCst);
-            self.rings.wake_one();
+            self.calls.fetch_add(1, Ordering::SeqCst);
+            self.calls.wake_one();
         } else {
             self.stop_scouting();
         }
@@ -129,9 +146,9 @@ impl Bell {
     /// All is over: whoever sleeps has to look again.
     pub fn ring_all(&self) {
         self.over.store(1, Ordering::SeqCst);
-        self.rings.fetch_add(1, Ordering::SeqCst);
+        self.calls.fetch_add(1, Ordering::SeqCst);
         self.over.wake_all();
-        self.rings.wake_all();
+        self.calls.wake_all();
     }
 
     /// Whether all is over.
@@ -139,12 +156,32 @@ impl Bell {
         self.over.load(Ordering::SeqCst) == 1
     }
 
-    /// Sleeps, unless something is ready or it rang since `heard`, and is the scout then. It may
-    /// return for no reason.
-    pub fn sleep<L: Legs, W: Wait>(&self, rt: &W, hub: &TurnHub<L>, heard: u64) {
+    // Sleeps until it is called. After so many microseconds it asks for a child, unless something is
+    // ready. Where nobody was called meanwhile it is as if it had slept all the time.
+    fn sleep_and_ask<L: Legs, W: Wait>(
+        &self,
+        rt: &W,
+        hub: &TurnHub<L>,
+        called: u64,
+        patience: u64,
+    ) {
+        let bits = low_bits(called);
+        self.calls
+            .park_timeout(rt, bits, Duration::from_micros(patience));
+        if self.called() == called {
+            if ready_mark(hub) == 0 {
+                self.asked.store(true, Ordering::SeqCst);
+            }
+            self.calls.park(rt, bits);
+        }
+    }
+
+    /// Sleeps, unless something is ready or a thread was woken since `called`, and is the scout then.
+    /// It asks for a child after so many microseconds. It may return for no reason.
+    pub fn sleep<L: Legs, W: Wait>(&self, rt: &W, hub: &TurnHub<L>, called: u64, patience: u64) {
         self.sleepers.fetch_add(1, Ordering::SeqCst);
         if ready_mark(hub) == 0 {
-            self.rings.park(rt, low_bits(heard));
+            self.sleep_and_ask(rt, hub, called, patience);
         }
         self.sleepers.fetch_sub(1, Ordering::SeqCst);
         self.scouted.store(true, Ordering::SeqCst);

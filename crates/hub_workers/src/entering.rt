@@ -141,9 +141,9 @@ pub fn fork<L: Legs, W: Wait>(
     }
 }
 
-/// The fork of a joiner that owes the end of its joinee and its join: all three are entered in one
-/// turn. Such a joiner has run its last child by itself, and is expected to do so with this one, so
-/// the thread keeps the child where no other is idle.
+/// The fork of a joiner that owes the end of its joinee and its join: all three are entered at one
+/// moment. Such a joiner has run its last child by itself, and is expected to do so with this one, so
+/// the thread keeps the child, unless a thread that has been idle for a while asks for one.
 pub fn fork_owing<L: Legs, W: Wait>(
     rt: &W,
     hub: &TurnHub<L>,
@@ -166,7 +166,7 @@ pub fn fork_owing<L: Legs, W: Wait>(
         L.claimed_group L.stopped_group (view_of seat.new) result }
     ensures only { IsPair (view_of seat.old) joinee number → OnlyNext (view_of seat.new) result }
 {
-    let shares = bell.has_idle();
+    let shares = bell.is_asked();
     let Ok((parent, child)) = L::split(hand, at) else {
         halt(rt, hub, seat);
         return Next::Nothing;

@@ -12,6 +12,10 @@ const SHORT_NAP: u64 = 50;
 
 const LONG_NAP: u64 = 6400;
 
+// After so many microseconds of sleep a thread asks for a child that is kept, at first. Each time
+// that it has found nothing in the end, it asks after twice as long, up to the longest nap.
+const FIRST_ASK: u64 = 200;
+
 // So many microseconds later than it should a nap ends.
 const LATE: u64 = 50;
 
@@ -44,6 +48,8 @@ struct Before {
 pub struct Scout {
     is_scout: bool,
     nap: u64,
+    // After so many microseconds of sleep it asks for a child that is kept.
+    patience: u64,
 }
 
 /// A thread has taken what was ready. Another may take the next.
@@ -73,7 +79,7 @@ fn decide(before: u64, after: u64, is_enough: bool, is_busy: bool) -> Look
     if is_busy { Look::Again } else { Look::Park }
 }
 
-// The nap after one of so many microseconds.
+// The nap after one of so many microseconds, or how long a thread sleeps before it asks again.
 fn longer(nap: u64) -> u64
     ensures { result ≡ min (2 * nap) LONG_NAP }
 {
@@ -92,12 +98,14 @@ fn judge<L: Legs>(hub: &TurnHub<L>, bell: &Bell, before: &Before, nap: u64) -> L
 }
 
 impl Scout {
+    /// A thread that is no scout, at the start.
     pub fn new() -> Scout
-        ensures { (result.is_scout ≡ false) × (result.nap ≡ SHORT_NAP) }
+        ensures { (result.is_scout ≡ false) × (result.nap ≡ SHORT_NAP) × (result.patience ≡ FIRST_ASK) }
     {
         Scout {
             is_scout: false,
             nap: SHORT_NAP,
+            patience: FIRST_ASK,
         }
     }
 
@@ -125,14 +133,16 @@ impl Scout {
         unreachable!()
     }
 
-    /// What a thread does that has found nothing: it sleeps, unless it rang since `heard`, and is
-    /// the scout then. A scout naps. When it returns the thread takes from the hub again.
-    pub fn rest<L: Legs, W: Wait>(&mut self, rt: &W, hub: &TurnHub<L>, bell: &Bell, heard: u64) {
+    /// What a thread does that has found nothing: it sleeps, unless a thread was woken since
+    /// `called`, and is the scout then. A scout naps. When it returns the thread takes from the hub
+    /// again.
+    pub fn rest<L: Legs, W: Wait>(&mut self, rt: &W, hub: &TurnHub<L>, bell: &Bell, called: u64) {
         if !self.is_scout {
-            bell.sleep(rt, hub, heard);
+            bell.sleep(rt, hub, called, self.patience);
         }
         match self.watch(rt, hub, bell) {
             Look::Park => {
+                self.patience = longer(self.patience);
                 self.is_scout = false;
                 bell.stop_scouting();
             },
@@ -142,6 +152,7 @@ impl Scout {
 
     /// The thread has taken what was ready, and is the scout no more.
     pub fn pass_on<L: Legs>(&mut self, hub: &TurnHub<L>, bell: &Bell) {
+        self.patience = FIRST_ASK;
         if self.is_scout {
             self.is_scout = false;
             bell.stop_scouting();

@@ -75,7 +75,7 @@ pub fn work<L: Legs, G: Gate, W: Wait>(
 {
     let mut scout = Scout::new();
     for _ in rt.forever() {
-        let heard = bell.heard();
+        let called = bell.called();
         match hub.take(rt, seat) {
             Taken::Run { number, runner } => {
                 scout.pass_on(hub, bell);
@@ -91,7 +91,7 @@ pub fn work<L: Legs, G: Gate, W: Wait>(
                 let first = Next::Retry { number, at };
                 drive(rt, hub, bell, gate, seat, hand, first);
             },
-            Taken::Idle => scout.rest(rt, hub, bell, heard),
+            Taken::Idle => scout.rest(rt, hub, bell, called),
             Taken::Finished | Taken::Halted { .. } => {
                 bell.ring_all();
                 return;

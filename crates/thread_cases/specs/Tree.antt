@@ -1,24 +1,16 @@
 -- A tree of revisions as a machine by numbers. Each but the leaves forks two children and joins two
 -- revisions, or the first
--- one forks leaves in rounds, and joins them.
+-- one forks leaves in rounds, and joins them, or forks two revisions with rounds of their own,
+-- or a leaf and one of these.
 --   next, joined   what a revision does next, and what a join makes of it
 --   goes_on, is_early   it has not ended, or may fork
 use Rattle.std.specs.Prelude.{◌≡◌, ℕ, ◌+◌, ◌-◌, ◌^◌, ◌==◌, min, Bool, true, false, cond}
 use Rattle.revision_machine.specs.Numbered.{Wish, Bears, Wants, Goes, Stops}
 use Rattle.thread_cases.specs.declared.node.Node.{Node}
 use Rattle.thread_cases.specs.declared.node.Way.{Way}
-use Rattle.thread_cases.specs.declared.node.Way.TheVariants.{Adds, Again, Traps, Tries, Rounds, Strays}
+use Rattle.thread_cases.specs.declared.node.Way.TheVariants.{Adds, Again, Traps, Tries, Rounds, Strays, Pairs, Beside}
 use Rattle.thread_cases.specs.declared.node.Stage.{Stage}
 use Rattle.thread_cases.specs.declared.node.Stage.TheVariants.{Begins, Forked, JoinsFirst, JoinsSecond, Between, Ends, Over}
-
--- its first revision has rounds, and forks leaves alone
-abbrev pub has_rounds : Way → Bool
-has_rounds Adds = false
-has_rounds Again = false
-has_rounds Traps = false
-has_rounds Tries = false
-has_rounds Rounds = true
-has_rounds Strays = true
 
 -- the leaves of such a tree end by a trap
 abbrev pub leaf_traps : Way → Bool
@@ -28,6 +20,8 @@ leaf_traps Traps = true
 leaf_traps Tries = true
 leaf_traps Rounds = false
 leaf_traps Strays = false
+leaf_traps Pairs = false
+leaf_traps Beside = false
 
 -- a joiner in such a tree outlives a trap
 abbrev pub outlives : Way → Bool
@@ -37,6 +31,8 @@ outlives Traps = false
 outlives Tries = true
 outlives Rounds = false
 outlives Strays = false
+outlives Pairs = false
+outlives Beside = false
 
 abbrev pub root : Way → ℕ → Node
 root way depth = record {
@@ -51,9 +47,39 @@ root way depth = record {
   by_join = false;
 }
 
+-- what a revision forks that forks its first child, or its second
+abbrev pub first_child : Way → Node → Node
+first_child Adds l = root Adds (l.depth - 1)
+first_child Again l = root Again (l.depth - 1)
+first_child Traps l = root Traps (l.depth - 1)
+first_child Tries l = root Tries (l.depth - 1)
+first_child Rounds l = root Rounds 0
+first_child Strays l = root Strays 0
+first_child Pairs l = root Rounds l.depth
+first_child Beside l = root Beside 0
+
+abbrev pub second_child : Way → Node → Node
+second_child Adds l = root Adds (l.depth - 1)
+second_child Again l = root Again (l.depth - 1)
+second_child Traps l = root Traps (l.depth - 1)
+second_child Tries l = root Tries (l.depth - 1)
+second_child Rounds l = root Rounds 0
+second_child Strays l = root Strays 0
+second_child Pairs l = root Strays l.depth
+second_child Beside l = root Rounds l.depth
+
+abbrev pub child_at : Stage → Node → Node
+child_at Begins l = first_child l.way l
+child_at Forked l = second_child l.way l
+child_at JoinsFirst l = first_child l.way l
+child_at JoinsSecond l = first_child l.way l
+child_at Between l = first_child l.way l
+child_at Ends l = first_child l.way l
+child_at Over l = first_child l.way l
+
 -- what it forks
 abbrev pub child_of : Node → Node
-child_of l = root l.way (cond (has_rounds l.way) 0 (l.depth - 1))
+child_of l = child_at l.stage l
 
 -- behind a round
 abbrev pub next_round : Node → Node
@@ -72,6 +98,8 @@ first_told Traps l n = record l { first = n; stage = Forked }
 first_told Tries l n = record l { first = n; stage = Forked }
 first_told Rounds l n = record l { first = n; stage = JoinsFirst }
 first_told Strays l n = record l { first = n; stage = JoinsFirst }
+first_told Pairs l n = record l { first = n; stage = Forked }
+first_told Beside l n = record l { first = n; stage = Forked }
 
 abbrev pub second_told : Way → Node → ℕ → Node
 second_told Adds l n = record l { second = n; stage = JoinsFirst }
@@ -80,6 +108,8 @@ second_told Traps l n = record l { second = n; stage = JoinsFirst }
 second_told Tries l n = record l { second = n; stage = JoinsFirst }
 second_told Rounds l n = record l { second = n; stage = JoinsFirst }
 second_told Strays l n = strayed l n
+second_told Pairs l n = record l { second = n; stage = JoinsFirst }
+second_told Beside l n = record l { second = n; stage = JoinsFirst }
 
 abbrev pub counted : Node → Node
 counted l = record l { forks = min (l.forks + 1) (2 ^ 32 - 1) }
@@ -105,6 +135,8 @@ first_joined Traps l = record l { stage = JoinsSecond }
 first_joined Tries l = record l { stage = JoinsSecond }
 first_joined Rounds l = next_round l
 first_joined Strays l = record l { stage = Forked }
+first_joined Pairs l = record l { stage = JoinsSecond }
+first_joined Beside l = record l { stage = JoinsSecond }
 
 abbrev pub second_joined : Way → Node → Node
 second_joined Adds l = record l { stage = Ends }
@@ -113,6 +145,8 @@ second_joined Traps l = record l { stage = Ends }
 second_joined Tries l = record l { stage = Ends }
 second_joined Rounds l = next_round l
 second_joined Strays l = next_round l
+second_joined Pairs l = record l { stage = Ends }
+second_joined Beside l = record l { stage = Ends }
 
 abbrev pub behind_join : Stage → Node → Node
 behind_join Begins l = second_joined l.way l
@@ -131,6 +165,8 @@ joinee_at JoinsSecond Traps l = l.second
 joinee_at JoinsSecond Tries l = l.second
 joinee_at JoinsSecond Rounds l = l.first
 joinee_at JoinsSecond Strays l = l.first
+joinee_at JoinsSecond Pairs l = l.second
+joinee_at JoinsSecond Beside l = l.first
 joinee_at Begins way l = l.first
 joinee_at Forked way l = l.first
 joinee_at JoinsFirst way l = l.first

@@ -1,8 +1,8 @@
 //! A tree of revisions: what one of them is, and its next event.
 ghost use Rattle.std.specs.Prelude.{◌≡◌, true, false};
 ghost use Rattle.thread_cases.specs.Tree.{root, child_of, after_fork, strayed, joinee};
-ghost use Rattle.thread_cases.specs.Tree.{goes_on, has_rounds, is_early, next_round, outlived};
-ghost use Rattle.thread_cases.specs.Tree.{joined, ended};
+ghost use Rattle.thread_cases.specs.Tree.{goes_on, is_early, next_round, outlived};
+ghost use Rattle.thread_cases.specs.Tree.{joined, ended, second_child};
 
 /// What the leaves and the other revisions of a tree do.
 #[derive(Clone, Copy, PartialEq, Eq, Debug)]
@@ -20,18 +20,11 @@ pub enum Way {
     /// The same, and behind that join it forks another leaf. It joins that in the next round,
     /// behind the fork of the next such leaf, and so it never joins the last.
     Strays,
-}
-
-impl Way {
-    /// Whether the first revision has rounds, and forks leaves alone.
-    pub fn has_rounds(self) -> bool
-        ensures { result ≡ has_rounds self }
-    {
-        match self {
-            Way::Adds | Way::Again | Way::Traps | Way::Tries => false,
-            Way::Rounds | Way::Strays => true,
-        }
-    }
+    /// The first revision forks one that goes by `Rounds` and one that goes by `Strays`, each with
+    /// as many rounds, and joins both.
+    Pairs,
+    /// The first revision forks a leaf and one that goes by `Rounds`, and joins the leaf twice.
+    Beside,
 }
 
 /// How far a revision is.
@@ -86,14 +79,34 @@ impl Node {
         }
     }
 
+    // What it forks behind its first child.
+    fn second_child(self) -> Node
+        ensures { result ≡ second_child self.way self }
+    {
+        match self.way {
+            Way::Adds | Way::Again | Way::Traps | Way::Tries => {
+                Node::root(self.way, self.depth.saturating_sub(1))
+            },
+            Way::Rounds | Way::Strays => Node::root(self.way, 0),
+            Way::Pairs => Node::root(Way::Strays, self.depth),
+            Way::Beside => Node::root(Way::Rounds, self.depth),
+        }
+    }
+
     /// What it forks.
     pub fn child(self) -> Node
         ensures { result ≡ child_of self }
     {
-        if self.way.has_rounds() {
-            return Node::root(self.way, 0);
+        if self.stage == Stage::Forked {
+            return self.second_child();
         }
-        Node::root(self.way, self.depth.saturating_sub(1))
+        match self.way {
+            Way::Adds | Way::Again | Way::Traps | Way::Tries => {
+                Node::root(self.way, self.depth.saturating_sub(1))
+            },
+            Way::Rounds | Way::Strays | Way::Beside => Node::root(self.way, 0),
+            Way::Pairs => Node::root(Way::Rounds, self.depth),
+        }
     }
 
     // Behind a round.
@@ -220,7 +233,7 @@ impl Node {
         ensures { result ≡ joinee self }
     {
         match (self.stage, self.way) {
-            (Stage::JoinsSecond, Way::Adds | Way::Traps | Way::Tries) => self.second,
+            (Stage::JoinsSecond, Way::Adds | Way::Traps | Way::Tries | Way::Pairs) => self.second,
             _ => self.first,
         }
     }

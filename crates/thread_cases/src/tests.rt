@@ -213,3 +213,46 @@ fn two_threads_hand_leaves_back(rt: HostRuntime) -> Result<(), Fail> {
     assert_eq!(rt; leaves(run.ends()), 19_999);
     Ok(())
 }
+
+// Two revisions make rounds at once, so both threads keep leaves. One hands each second leaf back.
+#[test]
+fn two_threads_keep_leaves(rt: HostRuntime) -> Result<(), Fail> {
+    let first = Going::root(Way::Pairs, 5000);
+    let run = run_tree(&rt, rt.alloc(), first, true, 4_000_000_000).ok_or("memory")?;
+    assert!(rt; run.state() == HubState::All);
+    assert_eq!(rt; run.ends().len(), 15_003);
+    assert_eq!(rt; run.schedule().len(), 45_006);
+    assert_eq!(rt; count(run.schedule(), 0), 5);
+    assert_eq!(rt; leaves(run.ends()), 14_999);
+    Ok(())
+}
+
+#[test]
+fn one_thread_keeps_leaves_of_two(rt: HostRuntime) -> Result<(), Fail> {
+    let first = Going::root(Way::Pairs, 5);
+    let run = run_tree(&rt, rt.alloc(), first, false, 4_000_000_000).ok_or("memory")?;
+    assert!(rt; run.state() == HubState::All);
+    assert_eq!(rt; run.schedule().len(), 51);
+    assert_eq!(rt; leaves(run.ends()), 14);
+    Ok(())
+}
+
+// A second join is found while another thread keeps leaves.
+#[test]
+fn two_threads_join_again_beside_rounds(rt: HostRuntime) -> Result<(), Fail> {
+    let first = Going::root(Way::Beside, 20_000);
+    let run = run_tree(&rt, rt.alloc(), first, true, 4_000_000_000).ok_or("memory")?;
+    assert!(rt; run.state() == HubState::Twice);
+    assert!(rt; count(run.schedule(), 0) == 4);
+    assert!(rt; run.ends().len() == run.forkers().len());
+    Ok(())
+}
+
+#[test]
+fn two_threads_find_no_memory_in_rounds(rt: HostRuntime) -> Result<(), Fail> {
+    let first = Going::root(Way::Pairs, 5000);
+    let run = run_tree(&rt, rt.alloc(), first, true, 3000).ok_or("memory")?;
+    assert!(rt; run.state() == HubState::NoMemory);
+    assert!(rt; run.schedule().len() < 45_006);
+    Ok(())
+}

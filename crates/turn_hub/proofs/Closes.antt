@@ -1,7 +1,9 @@
--- What is known at the close: of the slot, and of what the hub leaves.
-use Rattle.std.proofs.Common.{◌≡◌, ℕ, true, List, [], ◌∷◌, map, Option, Some, None, sym, ◌∙◌, refl, subst}
+-- What is known at the close: of the slot, of the schedule that is put together, and of what the hub leaves.
+use Rattle.std.proofs.Common.{◌≡◌, ◌⊎◌, inl, inr, ℕ, zero, suc, ◌+◌, ◌-◌, ◌*◌, ◌/◌, ◌<◌, ◌≤◌, true, List, [], ◌∷◌, map, length, Option, Some, None, sym, ap, ◌∙◌, refl, subst, arith}
 use Rattle.atomic_table.specs.Table.{State}
 use Rattle.revision_machine.specs.Numbered.{Wish, Entries, at_number}
+use Rattle.revision_machine.proofs.Paths.{some_inj}
+use Rattle.revision_machine.proofs.Numbers.{none_some}
 use Rattle.hub_core.specs.declared.status.Status.{Status}
 use Rattle.hub_core.specs.declared.status.Status.TheVariants.{Ready, Out, Waiting, Over, Gone}
 use Rattle.hub_core.specs.Hub as pure
@@ -9,40 +11,188 @@ use Rattle.hub_core.specs.Hub.{EndsAre, end_of}
 use Rattle.hub_core.specs.HubMachine.{HubMachine, numbered, values}
 use Rattle.hub_core.proofs.Hub as hub
 use Rattle.hub_core.specs.declared.kept.Kept.{Kept}
+use Rattle.hub_core.specs.declared.kept.Kept.TheVariants as left
 use Rattle.hub_core.specs.declared.state.HubState.{HubState}
 use Rattle.hub_core.specs.declared.state.HubState.TheVariants.{All, Twice, NoMemory}
-use Rattle.hub_core.specs.declared.value.Turn.{Turn}
-use Rattle.hub_core.specs.declared.slot.Slot.{Slot}
+use Rattle.hub_core.specs.declared.desk.Desk.{Desk}
+use Rattle.hub_core.specs.declared.desk.DeskSlot.{DeskSlot}
+use Rattle.hub_core.specs.declared.sight.Sight.{Sight}
 use Rattle.hub_core.specs.Left.{kept_of}
 use Rattle.hub_core.specs.Found.{all_over}
 use Rattle.hub_core.proofs.Slots.{no_more}
 use Rattle.hub_core.specs.declared.view.View.{View}
 use Rattle.hub_core.specs.Passes.{named}
-use Rattle.hub_core.specs.Rule.{is_out, done, Sound, SoundFrom, AreOfGroup}
-use Rattle.turn_hub.specs.Closing.{ClosedTurn, ClosedHub, AreKeptOf, IsClosed, EndsFit, OthersJoined, KeptRun, IsKeptRun, IsSameMachine, HaveSameEnds}
-use Rattle.hub_core.proofs.Keeps.{AtEnd}
-use Rattle.hub_core.proofs.Turns.{some_start}
+use Rattle.hub_core.specs.Views.{halt_count}
+use Rattle.hub_core.specs.Counts.{times}
+use Rattle.hub_core.specs.Rule.{is_out, done, Sound, SoundFrom, IsOfGroup, AreOfGroup}
+use Rattle.hub_core.specs.Rounds.{Item, One, Born, Loop, Round, flat, born, round_part, IsRound, children, weave, weave_forkers, AreRounds}
+use Rattle.hub_core.specs.Tally.{pairs, records_of, record_at, Shadows, IsLone}
+use Rattle.hub_core.specs.Ordered.{AreBelow, look_of, ends_of, kept_in}
+use Rattle.hub_core.proofs.Weaving.{weave_is}
+use Rattle.hub_core.proofs.Bearers.{forkers_are}
+use Rattle.hub_core.proofs.Gathered.{child_once, rounds_of_all}
+use Rattle.hub_core.proofs.Loops.{forkers_long}
+use Rattle.hub_core.proofs.Looking.{looked_there, looked_only, below_all}
+use Rattle.hub_core.proofs.Seating.{AtEnd}
+use Rattle.hub_core.proofs.Rests.{some_start}
+use Rattle.turn_hub.specs.Closing.{ClosedDesk, ClosedHub, AreKeptOf, IsClosed, EndsFit, OthersJoined, KeptRun}
+use Rattle.turn_hub.specs.Closing.{IsKeptRun, IsSameMachine, HaveSameEnds}
+
+-- a round of a number that was born
+round_within : (n : ℕ) (is : List Item) (i m k : ℕ) → IsRound (round_part n is) i m k → i < n + length (born is)
+round_within n [] i m k h = absurd h
+round_within n (One j ∷ is) i m k h = round_within n is i m k h
+round_within n (Born j ∷ is) i m k h = let a = round_within (suc n) is i m k h in omega arith
+round_within n (Loop x y ∷ is) i m k (inl h) = let a = h.0 in omega arith
+round_within n (Loop x y ∷ is) i m k (inr h) = let a = round_within (suc n) is i m k h in omega arith
+
+pub half_of : (n : ℕ) (h : HubState) → (2 * n + halt_count h) / 2 ≡ n
+half_of n All = omega arith
+half_of n Twice = omega arith
+half_of n NoMemory = omega arith
+
+module _ {R A E : Type 0} where
+  number_within : (slots : List (Status R A E)) (n : ℕ) (x : Status R A E) → at_number slots n ≡ Some x
+      → n < length slots
+  number_within [] n x e = none_some e
+  number_within (y ∷ slots) zero x e = omega arith
+  number_within (y ∷ slots) (suc n) x e = let a = number_within slots n x e in omega arith
+
+  -- a record is its revision's status, and one without a record is out, or was joined, or is not born
+  pub record Marks (records : List (Option (Status R A E))) (slots : List (Status R A E)) : Type 0 where
+    pub there : (j : ℕ) (x : Status R A E) → record_at records j ≡ Some x → at_number slots j ≡ Some x
+    pub others :
+        (j : ℕ) → record_at records j ≡ None
+        → (at_number slots j ≡ Some Out) ⊎ ((at_number slots j ≡ Some Gone) ⊎ (at_number slots j ≡ None))
+
+  marks : (records : List (Option (Status R A E))) (slots : List (Status R A E)) (lone : List ℕ)
+      → Shadows records slots lone → Marks records slots
+  marks records slots lone h = record { there = λ j x e. (h.recorded j x e).0; others = λ j e. by j (h.others j e) }
+    where
+      by : (j : ℕ) → IsLone slots lone j ⊎ ((at_number slots j ≡ None) × (times j lone ≡ 0))
+          → (at_number slots j ≡ Some Out) ⊎ ((at_number slots j ≡ Some Gone) ⊎ (at_number slots j ≡ None))
+      by j (inl (inl q)) = inl q.0
+      by j (inl (inr q)) = inr (inl q.0)
+      by j (inr q) = inr (inr q.0)
+
+  next_marks : (r : Option (Status R A E)) (rs : List (Option (Status R A E))) (s : Status R A E)
+      (slots : List (Status R A E)) → Marks (r ∷ rs) (s ∷ slots) → Marks rs slots
+  next_marks r rs s slots h = record { there = λ j. h.there (suc j); others = λ j. h.others (suc j) }
+
+  no_marks : (s : Status R A E) (slots : List (Status R A E)) → Marks [] (s ∷ slots) → Marks [] slots
+  no_marks s slots h = record { there = λ j x e. none_some e; others = λ j e. h.others (suc j) e }
+
+  bare_end : (s : Status R A E) → (Some s ≡ Some Out) ⊎ ((Some s ≡ Some Gone) ⊎ (Some s ≡ None)) → None ≡ end_of s
+  bare_end s (inl e) = ap end_of (sym (some_inj e))
+  bare_end s (inr (inl e)) = ap end_of (sym (some_inj e))
+  bare_end s (inr (inr e)) = none_some (sym e)
+
+  pub ends_left : (records : List (Option (Status R A E))) (slots : List (Status R A E)) → Marks records slots
+      → ends_of (length slots) records ≡ map end_of slots
+  ends_left [] [] h = refl
+  ends_left (r ∷ rs) [] h = refl
+  ends_left [] (s ∷ slots) h =
+      ap (λ (z : Option E × List (Option E)). z.0 ∷ z.1)
+      (λ i. (bare_end s (h.others 0 refl) i, ends_left [] slots (no_marks s slots h) i))
+  ends_left (None ∷ rs) (s ∷ slots) h =
+      ap (λ (z : Option E × List (Option E)). z.0 ∷ z.1)
+      (λ i. (bare_end s (h.others 0 refl) i, ends_left rs slots (next_marks None rs s slots h) i))
+  ends_left (Some x ∷ rs) (s ∷ slots) h =
+      ap (λ (z : Option E × List (Option E)). z.0 ∷ z.1)
+      (λ i. (
+        end_of (sym (some_inj (h.there 0 x refl)) i),
+        ends_left rs slots (next_marks (Some x) rs s slots h) i,
+      ))
+
+  bare_kept : (s : Status R A E) (slots : List (Status R A E))
+      → (Some s ≡ Some Out) ⊎ ((Some s ≡ Some Gone) ⊎ (Some s ≡ None)) → kept_of slots ≡ kept_of (s ∷ slots)
+  bare_kept s slots (inl e) = ap (λ x. kept_of (x ∷ slots)) (sym (some_inj e))
+  bare_kept s slots (inr (inl e)) = ap (λ x. kept_of (x ∷ slots)) (sym (some_inj e))
+  bare_kept s slots (inr (inr e)) = none_some (sym e)
+
+  one_kept : (x : Status R A E) (rs : List (Option (Status R A E))) (slots : List (Status R A E))
+      → kept_in rs ≡ kept_of slots → kept_in (Some x ∷ rs) ≡ kept_of (x ∷ slots)
+  one_kept (Ready r) rs slots e = ap (λ l. left.Run r ∷ l) e
+  one_kept Out rs slots e = e
+  one_kept (Waiting a) rs slots e = ap (λ l. left.Join a ∷ l) e
+  one_kept (Over x) rs slots e = e
+  one_kept Gone rs slots e = e
+
+  pub kept_left : (records : List (Option (Status R A E))) (slots : List (Status R A E)) → Marks records slots
+      → kept_in records ≡ kept_of slots
+  kept_left [] [] h = refl
+  kept_left (None ∷ rs) [] h =
+      kept_left rs [] record { there = λ j. h.there (suc j); others = λ j e. inr (inr refl) }
+  kept_left (Some x ∷ rs) [] h = none_some (h.there 0 x refl)
+  kept_left [] (s ∷ slots) h =
+      kept_left [] slots (no_marks s slots h) ∙ bare_kept s slots (h.others 0 refl)
+  kept_left (None ∷ rs) (s ∷ slots) h =
+      kept_left rs slots (next_marks None rs s slots h) ∙ bare_kept s slots (h.others 0 refl)
+  kept_left (Some x ∷ rs) (s ∷ slots) h =
+      one_kept x rs slots (kept_left rs slots (next_marks (Some x) rs s slots h))
+      ∙ ap (λ y. kept_of (y ∷ slots)) (sym (some_inj (h.there 0 x refl)))
 
 module _ {L R A E : Type 0} (d : HubMachine L R A E) (ends : E → L → Type 0) where
-  pub closes : {first v : View L} {s : State (Slot R A E) (View L)} (a : AtEnd d ends first s v)
-      → v.saw ≡ 1 → ClosedTurn d ends first v a.value.value
+  group_of : (group : List ℕ) (records : List (Option (Status R A E))) (slots : List (Status R A E))
+      → Marks records slots
+      → ((j : ℕ) (x : Status R A E) → record_at records j ≡ Some x → IsOfGroup d ends group x)
+      → AreOfGroup d ends group slots
+  group_of group records [] h all = tt
+  group_of group [] (s ∷ slots) h all =
+      (bare (h.others 0 refl), group_of group [] slots (no_marks s slots h) (λ j x e. none_some e))
+    where
+      bare : (Some s ≡ Some Out) ⊎ ((Some s ≡ Some Gone) ⊎ (Some s ≡ None)) → IsOfGroup d ends group s
+      bare (inl e) = subst (IsOfGroup d ends group) (sym (some_inj e)) tt
+      bare (inr (inl e)) = subst (IsOfGroup d ends group) (sym (some_inj e)) tt
+      bare (inr (inr e)) = none_some (sym e)
+  group_of group (None ∷ rs) (s ∷ slots) h all =
+      (bare (h.others 0 refl), group_of group rs slots (next_marks None rs s slots h) (λ j. all (suc j)))
+    where
+      bare : (Some s ≡ Some Out) ⊎ ((Some s ≡ Some Gone) ⊎ (Some s ≡ None)) → IsOfGroup d ends group s
+      bare (inl e) = subst (IsOfGroup d ends group) (sym (some_inj e)) tt
+      bare (inr (inl e)) = subst (IsOfGroup d ends group) (sym (some_inj e)) tt
+      bare (inr (inr e)) = none_some (sym e)
+  group_of group (Some x ∷ rs) (s ∷ slots) h all = (
+    subst (IsOfGroup d ends group) (sym (some_inj (h.there 0 x refl))) (all 0 x refl),
+    group_of group rs slots (next_marks (Some x) rs s slots h) (λ j. all (suc j)),
+  )
+
+  sound_long : (start : L) (h : HubState) (log : List ℕ) (slots : List (Status R A E)) (fs : List ℕ)
+      → Sound d ends start h log slots fs → length slots ≡ length fs
+  sound_long start All log slots fs tie = sym (forkers_long (numbered d) (values d ends) start log slots fs tie)
+  sound_long start NoMemory log slots fs tie = sym (forkers_long (numbered d) (values d ends) start log slots fs tie)
+  sound_long start Twice log slots fs entered =
+      sym (forkers_long (numbered d) (values d ends) start entered.before slots fs entered.tied)
+
+  pub closes : {first v : Sight L} {s : State (DeskSlot R A E) (Sight L)} (a : AtEnd d ends first s v)
+      → v.seat.saw ≡ 1 → ClosedDesk d ends first.seat v a.box.value (length a.slots)
   closes {first} a saw =
-      let h = a.holds in
-      let t = a.value.value in
+      let desk = a.box.value in
       let start =
-      some_start d ends first.start t.state a.log t.revisions.slots.items t.revisions.forkers.items h.sound in
+      some_start d ends first.seat.start desk.state (flat a.items) a.slots (0 ∷ born a.items) a.sound in
+      let sound : Sound d ends start.0 desk.state (flat a.items) a.slots (0 ∷ born a.items) =
+      subst (λ o. SoundFrom d ends o desk.state (flat a.items) a.slots (0 ∷ born a.items)) start.1 a.sound in
       record {
+        items = a.items;
+        slots = a.slots;
+        lone = a.lone;
         start = start.0;
         begun = start.1;
-        sound = subst (λ (z : Option L × List ℕ).
-            SoundFrom d ends z.0 t.state z.1 t.revisions.slots.items t.revisions.forkers.items)
-            (λ i. (start.1 i, sym h.schedule i)) h.sound;
-        grouped = h.grouped;
-        outs = λ n. sym (h.outs n) ∙ a.passes n;
+        sound = sound;
+        grouped = group_of first.seat.group (records_of desk) a.slots
+            (marks (records_of desk) a.slots a.lone a.lays.shadows) a.lays.grouped;
+        outs = λ n. sym (a.outs n) ∙ a.passes n;
         state = a.state;
         over = a.over saw;
         same = a.same;
         behind = a.behind;
+        counted = refl;
+        forked = sound_long start.0 desk.state (flat a.items) a.slots (0 ∷ born a.items) sound;
+        roomy = let x = a.roomy in let y = a.lays.limit_is in omega arith;
+        entries = a.lays.entries;
+        shadows = a.lays.shadows;
+        each = a.each;
+        made = a.made;
       }
 
   over_from : (slots : List (Status R A E)) → all_over slots ≡ true → pure.all_ended (numbered d) (values d ends) slots
@@ -118,17 +268,67 @@ module _ {L R A E : Type 0} (d : HubMachine L R A E) (ends : E → L → Type 0)
       grouped = subst (AreKeptOf d ends group) (sym kept_are) (kept_grouped group slots grouped);
     }
 
-  pub leaves : (first v : View L) (t : Turn R A E) → ClosedTurn d ends first v t
-      → (ended : List (Option E)) (kept : List (Kept R A)) (taken : ℕ → ℕ) → ended ≡ map end_of t.revisions.slots.items
-      → kept ≡ kept_of t.revisions.slots.items
-      → ((n : ℕ) → named n v.passes ≡ taken n)
-      → IsClosed d ends first t.state t.schedule.items t.revisions.forkers.items ended kept taken
-  leaves first v t c ended kept taken ends_are kept_are same = (
-    c.start,
-    c.begun,
-    leaves_by c.start first.group t.schedule.items t.revisions.forkers.items t.revisions.slots.items ended kept
-        taken (λ n. c.outs n ∙ same n) ends_are kept_are c.grouped t.state c.sound c.over,
-  )
+  -- the lists of all seats have these rounds
+  module _ (first : View L) (v : Sight L) (desk : Desk R A E) (count : ℕ) (c : ClosedDesk d ends first v desk count)
+      (rs : List Round) (is : rs ≡ v.rounds) where
+    made_in : (n m k : ℕ) → IsRound rs n m k → IsRound (round_part 1 c.items) n m k
+    made_in n m k h = c.made n m k (subst (λ l. IsRound l n m k) is h)
+
+    each_in : (n : ℕ) → times n (children rs) ≡ times n (children (round_part 1 c.items))
+    each_in n = ap (λ l. times n (children l)) is ∙ c.each n
+
+    pub all_below : AreBelow count rs
+    all_below = below_all count rs (λ n m k h.
+        let a = round_within 1 c.items n m k (made_in n m k h) in
+        let b = c.counted in
+        let f = c.forked in
+        omega arith)
+
+    rounds_are : AreRounds 1 c.items (look_of rs)
+    rounds_are =
+        rounds_of_all c.items rs (look_of rs) each_in made_in
+        (looked_there rs (λ n. let a = each_in n in let b = child_once 1 c.items n in omega arith))
+        (looked_only rs)
+
+    less : count - 1 ≡ length (born c.items)
+    less = let a = c.counted in let b = c.forked in omega arith
+
+    pub schedule_is : weave (count - 1) 1 (pairs desk.journal.entries.items) (look_of rs) ≡ flat c.items
+    schedule_is =
+        ap (λ (z : ℕ × List (ℕ × ℕ)). weave z.0 1 z.1 (look_of rs)) (λ i. (less i, c.entries i))
+        ∙ weave_is 1 c.items (look_of rs) rounds_are
+
+    pub forkers_is : 0 ∷ weave_forkers (count - 1) 1 (pairs desk.journal.entries.items) (look_of rs) ≡ 0 ∷ born c.items
+    forkers_is =
+        ap (λ (z : ℕ × List (ℕ × ℕ)). 0 ∷ weave_forkers z.0 1 z.1 (look_of rs)) (λ i. (less i, c.entries i))
+        ∙ ap (λ l. 0 ∷ l) (forkers_are 1 c.items (look_of rs) rounds_are)
+
+    pub none_behind : (j : ℕ) → count ≤ j → record_at (records_of desk) j ≡ None
+    none_behind j far = by (record_at (records_of desk) j) refl
+      where
+        by : (o : Option (Status R A E)) → record_at (records_of desk) j ≡ o → record_at (records_of desk) j ≡ None
+        by None e = e
+        by (Some x) e =
+            let a = number_within c.slots j x (c.shadows.recorded j x e).0 in
+            let b = c.counted in
+            absurd (omega arith)
+
+    pub leaves : (schedule forkers : List ℕ) (ended : List (Option E)) (kept : List (Kept R A)) (taken : ℕ → ℕ)
+        → schedule ≡ weave (count - 1) 1 (pairs desk.journal.entries.items) (look_of rs)
+        → forkers ≡ 0 ∷ weave_forkers (count - 1) 1 (pairs desk.journal.entries.items) (look_of rs)
+        → ended ≡ ends_of count (records_of desk) → kept ≡ kept_in (records_of desk)
+        → ((n : ℕ) → named n v.seat.passes ≡ taken n)
+        → IsClosed d ends first desk.state schedule forkers ended kept taken
+    leaves schedule forkers ended kept taken log_are forks_are ends_are kept_are same =
+        let shown = marks (records_of desk) c.slots c.lone c.shadows in (
+          c.start,
+          c.begun,
+          leaves_by c.start first.group schedule forkers c.slots ended kept taken (λ n. c.outs n ∙ same n)
+              (ends_are ∙ (ap (λ n. ends_of n (records_of desk)) c.counted ∙ ends_left (records_of desk) c.slots shown))
+              (kept_are ∙ kept_left (records_of desk) c.slots shown) c.grouped desk.state
+              (subst (λ (z : List ℕ × List ℕ). Sound d ends c.start desk.state z.0 c.slots z.1)
+              (λ i. (sym (log_are ∙ schedule_is) i, sym (forks_are ∙ forkers_is) i)) c.sound) c.over,
+        )
 
   ends_fit : (slots : List (Status R A E)) (w : Entries L) → pure.AllFit (numbered d) (values d ends) slots w
       → EndsFit (numbered d) ends (map end_of slots) w

@@ -3,9 +3,10 @@
 --   Legal        the schedule is legal, or its last entry joined what was joined
 --   EndsFit      each end that is told is that of a revision that has ended and was not joined
 --   KeptRun      a run: legal, with the forkers and the ends of its world
+--   ClosedDesk   what the slot has, and how many revisions there are
 --   ClosedHub    what a hub leaves: the run, and what a halt left
 --   IsSameMachine, HaveSameEnds   two machines of the same states and ends do the same
-use Rattle.std.specs.Prelude.{◌≡◌, ◌↔◌, ℕ, true, List, [], ◌∷◌, ◌++◌, map, Option, Some, None}
+use Rattle.std.specs.Prelude.{◌≡◌, ◌≤◌, ◌↔◌, ℕ, true, List, [], ◌∷◌, ◌++◌, map, length, Option, Some, None}
 use Rattle.atomic_table.specs.declared.shared.Seat.{Seat}
 use Rattle.revision_machine.specs.Machine.{Plain, Joined}
 use Rattle.revision_machine.specs.Numbered.{Numbered, Entries, Both, Listing, Stops, IsOver, at_number, paths_of}
@@ -18,28 +19,31 @@ use Rattle.hub_core.specs.declared.state.HubState.{HubState}
 use Rattle.hub_core.specs.declared.state.HubState.TheVariants.{All, Twice, NoMemory}
 use Rattle.hub_core.specs.declared.kept.Kept.{Kept}
 use Rattle.hub_core.specs.declared.kept.Kept.TheVariants as left
-use Rattle.hub_core.specs.declared.value.Turn.{Turn}
-use Rattle.hub_core.specs.Counts.{total}
-use Rattle.hub_core.specs.Left.{kept_of}
 use Rattle.hub_core.specs.declared.view.View.{View}
+use Rattle.hub_core.specs.declared.sight.Sight.{Sight}
+use Rattle.hub_core.specs.declared.desk.Desk.{Desk}
+use Rattle.hub_core.specs.Counts.{total, times}
+use Rattle.hub_core.specs.Left.{kept_of}
 use Rattle.hub_core.specs.Passes.{named, AreStartsOf}
 use Rattle.hub_core.specs.Views.{either_saw, either_halt}
-use Rattle.hub_core.specs.Rule.{is_out, is_over, Sound, AreOfGroup}
+use Rattle.hub_core.specs.Rule.{is_out, done, Sound, AreOfGroup}
+use Rattle.hub_core.specs.Rounds.{Item, flat, born, turn_part, round_part, IsRound, children}
+use Rattle.hub_core.specs.Tally.{pairs, records_of, Shadows}
 
-module _ {L S : Type 0} where
+module _ {S L : Type 0} where
   -- 1 where one of them was answered Finished or Halted, or entered a halt
-  abbrev pub saw_of : List (Seat S (View L)) → ℕ
+  abbrev pub saw_of : List (Seat S (Sight L)) → ℕ
   saw_of [] = 0
-  saw_of (s ∷ ss) = either_saw s.me.0.saw (saw_of ss)
+  saw_of (s ∷ ss) = either_saw s.me.0.seat.saw (saw_of ss)
 
   -- the halt that one of them knows of
-  abbrev pub halt_known : List (Seat S (View L)) → HubState
+  abbrev pub halt_known : List (Seat S (Sight L)) → HubState
   halt_known [] = All
-  halt_known (s ∷ ss) = either_halt (halt_known ss) s.me.0.halt
+  halt_known (s ∷ ss) = either_halt (halt_known ss) s.me.0.seat.halt
 
   -- how many of their passes name the revision
-  abbrev pub held_by : ℕ → List (Seat S (View L)) → ℕ
-  held_by n = total (λ s. named n s.me.0.passes)
+  abbrev pub held_by : ℕ → List (Seat S (Sight L)) → ℕ
+  held_by n = total (λ s. named n s.me.0.seat.passes)
 
 module _ (N : Numbered) where
   -- the schedule leads to the world, or in Twice from there by one entry to the join that entered it
@@ -86,17 +90,28 @@ module _ (N : Numbered) where
         (start : N.Local) × (begun ≡ Some start) × KeptRun start state schedule forkers ended
 
 module _ {L R A E : Type 0} (d : HubMachine L R A E) (ends : E → L → Type 0) where
-  -- what the slot has at the end, by the view of all seats together
-  pub record ClosedTurn (first v : View L) (t : Turn R A E) : Type 0 where
+  -- by the view of all seats together
+  pub record ClosedDesk (first : View L) (v : Sight L) (desk : Desk R A E) (count : ℕ) : Type 0 where
+    pub items : List Item
+    pub slots : List (Status R A E)
+    pub lone : List ℕ
     pub start : L
     pub begun : first.start ≡ Some start
-    pub sound : Sound d ends start t.state t.schedule.items t.revisions.slots.items t.revisions.forkers.items
-    pub grouped : AreOfGroup d ends first.group t.revisions.slots.items
-    pub outs : (n : ℕ) → is_out (at_number t.revisions.slots.items n) ≡ named n v.passes
-    pub state : t.state ≡ v.halt
-    pub over : is_over t ≡ true
-    pub same : (v.start ≡ first.start) × (v.group ≡ first.group)
-    pub behind : AreStartsOf t.schedule.items v.turns
+    pub sound : Sound d ends start desk.state (flat items) slots (0 ∷ born items)
+    pub grouped : AreOfGroup d ends first.group slots
+    pub outs : (n : ℕ) → is_out (at_number slots n) ≡ named n v.seat.passes
+    pub state : desk.state ≡ v.seat.halt
+    pub over : done desk.state slots ≡ true
+    pub same : (v.seat.start ≡ first.start) × (v.seat.group ≡ first.group)
+    pub behind : AreStartsOf (flat items) v.seat.turns
+    pub counted : count ≡ length slots
+    pub forked : length slots ≡ length (0 ∷ born items)
+    pub roomy : count ≤ desk.journal.limit
+    pub entries : pairs desk.journal.entries.items ≡ turn_part 1 items
+    pub shadows : Shadows (records_of desk) slots lone
+    -- each round of the schedule is once in the lists of the seats
+    pub each : (n : ℕ) → times n (children v.rounds) ≡ times n (children (round_part 1 items))
+    pub made : (n i k : ℕ) → IsRound v.rounds n i k → IsRound (round_part 1 items) n i k
 
   abbrev pub Legal : L → HubState → List ℕ → Entries L → Type 0
   Legal start state schedule world = IsLegal (numbered d) start state schedule world

@@ -9,15 +9,15 @@
 use Rattle.std.specs.Prelude.{◌≡◌, ℕ, List, map, Option}
 use Rattle.atomic_table.specs.declared.shared.Seat.{Seat}
 use Rattle.hub_core.specs.declared.state.HubState.{HubState}
-use Rattle.hub_core.specs.declared.slot.Slot.{Slot}
+use Rattle.hub_core.specs.declared.desk.DeskSlot.{DeskSlot}
 use Rattle.turn_hub.specs.declared.closing.HubRun.{HubRun}
 use Rattle.turn_hub.specs.declared.closing.order.HubSchedule.{HubSchedule}
 use Rattle.turn_hub.specs.declared.hub.TurnHub.{TurnHub}
 use Rattle.hub_core.specs.declared.revision.Revision.{Ghosts}
 use Rattle.turn_hub.specs.declared.seat.HubSeat.{HubSeat}
 use Rattle.hub_core.specs.declared.view.View.{View}
-use Rattle.hub_core.specs.Seats.{AreOf}
-use Rattle.hub_core.specs.Views.{first_of}
+use Rattle.hub_core.specs.declared.sight.Sight.{Sight}
+use Rattle.turn_hub.specs.Seats.{AreOf, first_of}
 
 module _ {S : Type 0} where
   abbrev pub schedule_numbers : HubSchedule S → List ℕ
@@ -59,14 +59,14 @@ module _ {L S R A E C P : Type 0} where
 
     -- what a seat knows
     abbrev pub view_of : HubSeat L S R A E C P g → View S
-    view_of seat = seat.place.me.0
+    view_of seat = seat.place.me.0.seat
 
     abbrev pub IsSeatOf : TurnHub L S R A E C P → HubSeat L S R A E C P g → Type 0
     IsSeatOf hub seat = seat.place.table_id ≡ hub.turn.shared.table_id
 
     -- seats at their hub's table
     abbrev pub places :
-        List (HubSeat L S R A E C P g) → List (Seat (Slot R A E) (View S))
+        List (HubSeat L S R A E C P g) → List (Seat (DeskSlot R A E) (Sight S))
     places seats = map (λ s. s.place) seats
 
     abbrev pub AreSeatsOf : TurnHub L S R A E C P → List (HubSeat L S R A E C P g) → Type 0

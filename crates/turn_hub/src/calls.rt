@@ -1,17 +1,15 @@
 //! The calls in a turn.
-ghost use Rattle.std.specs.Prelude.{◌≡◌, ◌<◌, Some, IfOk, IfErr, OnOk, MatchBool};
+ghost use Rattle.std.specs.Prelude.{◌≡◌, Some, IfErr, OnOk, MatchBool};
 
-use crate::answers::{EndStep, JoinAnswer, JoinStep, Onward, Taken};
-use crate::ended::{comes_next, has_ended};
+use crate::answers::{Onward, Taken};
 use crate::hub::TurnHub;
 use crate::seat::HubSeat;
 use hub_core::Revision;
 use std::sync::Wait;
 
 impl<L: Revision> TurnHub<L> {
-    ghost use Rattle.hub_core.specs.Seats.{HasFork, HasJoin, HasEnd, HasTrap, HadTurn};
-    ghost use Rattle.turn_hub.specs.Answers.{TakenSays, Forked, JoinSays, JoinedOn};
-    ghost use Rattle.turn_hub.specs.Answers.{EndedSays, EndedOn, IsHalted};
+    ghost use Rattle.hub_core.specs.Seats.{HasEnd, HasTrap, HadTurn};
+    ghost use Rattle.turn_hub.specs.Answers.{EndedSays, IsHalted, TakenSays};
 
     /// Takes a revision that is ready, if there is one.
     /// Idle: nothing is ready, and something is unfinished. Finished: nothing is unfinished.
@@ -19,130 +17,20 @@ impl<L: Revision> TurnHub<L> {
     pub fn take<W: Wait>(&self, rt: &W, seat: &mut HubSeat<L>) -> Taken<L::Runner, L::AtJoin>
         requires own { seat.old.place.table_id ≡ self.now.turn.shared.table_id }
         ensures own { seat.new.place.table_id ≡ seat.old.place.table_id }
-        ensures turn { HadTurn seat.old.place.me.0 seat.new.place.me.0 }
-        ensures answer { TakenSays L.machine L.ends seat.old.place.me.0 seat.new.place.me.0 result }
+        ensures turn { HadTurn seat.old.place.me.0.seat seat.new.place.me.0.seat }
+        ensures answer { TakenSays L.machine L.ends seat.old.place.me.0.seat
+            seat.new.place.me.0.seat result }
     {
-        let turn = self.enter(rt, &mut seat.place, &mut seat.patience);
-        if let Some(twice) = turn.halted() {
-            self.put_home(&mut seat.place, turn);
+        let desk = self.enter(rt, &mut seat.place, &mut seat.patience);
+        if let Some(twice) = desk.halted() {
+            self.put_home(&mut seat.place, desk);
             return Taken::Halted { twice };
         }
-        let over = turn.revisions.queue.unfinished == 0;
-        match self.take_next(&mut seat.place, turn) {
+        let over = desk.records.queue.unfinished == 0;
+        match self.take_next(&mut seat.place, desk) {
             Onward::Run { number, runner } => Taken::Run { number, runner },
             Onward::Retry { number, at } => Taken::Retry { number, at },
             Onward::Nothing => { if over { Taken::Finished } else { Taken::Idle } },
-        }
-    }
-
-    /// Hands in the child of a fork of the revision `of`, and answers its number. The child comes
-    /// back for want of memory, and where no number is left, and want of memory is then entered. It
-    /// comes back after a halt too.
-    pub fn fork<W: Wait>(
-        &self,
-        rt: &W,
-        seat: &mut HubSeat<L>,
-        of: u32,
-        child: L::Runner,
-    ) -> Result<u32, L::Runner>
-        requires own { seat.old.place.table_id ≡ self.now.turn.shared.table_id }
-        requires event { HasFork L.machine L.ends seat.old.place.me.0 of child }
-        requires group { L.machine.runner_group child ≡ seat.old.place.me.0.group }
-        ensures own { seat.new.place.table_id ≡ seat.old.place.table_id }
-        ensures turn { HadTurn seat.old.place.me.0 seat.new.place.me.0 }
-        ensures ok { IfOk result (λ n. Forked L.machine L.ends seat.old.place.me.0
-            seat.new.place.me.0 of child n) }
-        ensures err { IfErr result (λ c. (c ≡ child) × IsHalted seat.old.place.me.0
-            seat.new.place.me.0) }
-    {
-        let turn = self.enter(rt, &mut seat.place, &mut seat.patience);
-        if turn.halted().is_some() {
-            self.put_home_halted(&mut seat.place, turn);
-            return Err(child);
-        }
-        self.fork_in(&mut seat.place, turn, of, child)
-    }
-
-    /// Hands in a joiner, the revision `of`. Where its joinee has ended, it comes back with the
-    /// joinee's end taken in. Waits: the joinee has not ended, and the hub keeps the joiner. Twice:
-    /// the joinee was joined before. Trapped and Dropped: it ended by a trap, which the joiner does
-    /// not outlive, or does. OutOfMemory: a halt was entered, before or by this call.
-    pub fn join<W: Wait>(
-        &self,
-        rt: &W,
-        seat: &mut HubSeat<L>,
-        of: u32,
-        at: L::AtJoin,
-    ) -> JoinAnswer<L::AtJoin, L::Claimed, L::Stopped>
-        requires own { seat.old.place.table_id ≡ self.now.turn.shared.table_id }
-        requires event { HasJoin L.machine L.ends seat.old.place.me.0 of at }
-        requires group { L.machine.joiner_group at ≡ seat.old.place.me.0.group }
-        ensures own { seat.new.place.table_id ≡ seat.old.place.table_id }
-        ensures turn { HadTurn seat.old.place.me.0 seat.new.place.me.0 }
-        ensures answer { JoinSays L.machine L.ends L.claimed L.stopped
-            L.claimed_group L.stopped_group
-            seat.old.place.me.0 seat.new.place.me.0 of at result }
-    {
-        let mut turn = self.enter(rt, &mut seat.place, &mut seat.patience);
-        if turn.halted().is_some() {
-            self.put_home_halted(&mut seat.place, turn);
-            return JoinAnswer::OutOfMemory(at);
-        }
-        if has_ended::<L>(turn.revisions.slots.as_slice(), L::on(&at)) {
-            return self.join_in(&mut seat.place, turn, of, at);
-        }
-        match self.keep_in(&mut seat.place, &mut *turn, of, at) {
-            Ok(()) => {
-                self.put_home(&mut seat.place, turn);
-                JoinAnswer::Waits
-            },
-            Err(at) => {
-                self.put_home_halted(&mut seat.place, turn);
-                JoinAnswer::OutOfMemory(at)
-            },
-        }
-    }
-
-    /// The same, but in the same turn the seat also takes what is ready where the joinee has not
-    /// ended. Where its joinee comes first and is before its leg, it takes that, and the joiner
-    /// comes back. Else the hub keeps the joiner.
-    pub fn join_or_take<W: Wait>(
-        &self,
-        rt: &W,
-        seat: &mut HubSeat<L>,
-        of: u32,
-        at: L::AtJoin,
-    ) -> JoinStep<L::Runner, L::AtJoin, L::Claimed, L::Stopped>
-        requires own { seat.old.place.table_id ≡ self.now.turn.shared.table_id }
-        requires event { HasJoin L.machine L.ends seat.old.place.me.0 of at }
-        requires group { L.machine.joiner_group at ≡ seat.old.place.me.0.group }
-        ensures own { seat.new.place.table_id ≡ seat.old.place.table_id }
-        ensures turn { HadTurn seat.old.place.me.0 seat.new.place.me.0 }
-        ensures answer { JoinedOn L.machine L.ends L.claimed L.stopped
-            L.claimed_group L.stopped_group
-            seat.old.place.me.0 seat.new.place.me.0 of at result }
-    {
-        let mut turn = self.enter(rt, &mut seat.place, &mut seat.patience);
-        if turn.halted().is_some() {
-            self.put_home_halted(&mut seat.place, turn);
-            return JoinStep::Came(JoinAnswer::OutOfMemory(at));
-        }
-        let on = L::on(&at);
-        let ended = has_ended::<L>(turn.revisions.slots.as_slice(), on);
-        if ended {
-            return JoinStep::Came(self.join_in(&mut seat.place, turn, of, at));
-        }
-        let next = comes_next::<L>(&turn.revisions, on);
-        if next {
-            let (number, runner) = self.take_runner(&mut seat.place, turn);
-            return JoinStep::Joinee { number, runner, at };
-        }
-        match self.keep_in(&mut seat.place, &mut *turn, of, at) {
-            Ok(()) => JoinStep::Waits(self.take_next(&mut seat.place, turn)),
-            Err(at) => {
-                self.put_home_halted(&mut seat.place, turn);
-                JoinStep::Came(JoinAnswer::OutOfMemory(at))
-            },
         }
     }
 
@@ -157,74 +45,28 @@ impl<L: Revision> TurnHub<L> {
     ) -> Result<(), L::End>
         requires own { seat.old.place.table_id ≡ self.now.turn.shared.table_id }
         requires event { MatchBool (L.by_join end)
-            (HasTrap L.machine L.ends seat.old.place.me.0 of end)
-            (HasEnd L.machine L.ends seat.old.place.me.0 of end) }
+            (HasTrap L.machine L.ends seat.old.place.me.0.seat of end)
+            (HasEnd L.machine L.ends seat.old.place.me.0.seat of end) }
         ensures own { seat.new.place.table_id ≡ seat.old.place.table_id }
-        ensures turn { HadTurn seat.old.place.me.0 seat.new.place.me.0 }
-        ensures ok { OnOk result (EndedSays L.machine L.ends seat.old.place.me.0
-            seat.new.place.me.0 of (L.by_join end)) }
-        ensures err { IfErr result (λ e. (e ≡ end) × IsHalted seat.old.place.me.0
-            seat.new.place.me.0) }
+        ensures turn { HadTurn seat.old.place.me.0.seat seat.new.place.me.0.seat }
+        ensures ok { OnOk result (EndedSays L.machine L.ends seat.old.place.me.0.seat
+            seat.new.place.me.0.seat of (L.by_join end)) }
+        ensures err { IfErr result (λ e. (e ≡ end) × IsHalted seat.old.place.me.0.seat
+            seat.new.place.me.0.seat) }
     {
-        let mut turn = self.enter(rt, &mut seat.place, &mut seat.patience);
-        if turn.halted().is_some() {
-            self.put_home_halted(&mut seat.place, turn);
+        let entered = self.enter_recorded(rt, &mut seat.place, &mut seat.patience, &mut seat.kept);
+        let Some(desk) = entered else {
             return Err(end);
-        }
-        match self.end_in(&mut seat.place, &mut *turn, of, end) {
-            Ok(()) => {
-                self.put_home(&mut seat.place, turn);
-                Ok(())
-            },
-            Err(end) => {
-                self.put_home_halted(&mut seat.place, turn);
-                Err(end)
-            },
-        }
-    }
-
-    /// The same, and the seat takes what is ready in the same turn. Where that is a joiner, as each
-    /// that waited for this end, it joins in that turn too, by one further entry where there is
-    /// memory for it.
-    pub fn end_and_take<W: Wait>(
-        &self,
-        rt: &W,
-        seat: &mut HubSeat<L>,
-        of: u32,
-        end: L::End,
-    ) -> Result<EndStep<L::Runner, L::AtJoin, L::Claimed, L::Stopped>, L::End>
-        requires own { seat.old.place.table_id ≡ self.now.turn.shared.table_id }
-        requires event { MatchBool (L.by_join end)
-            (HasTrap L.machine L.ends seat.old.place.me.0 of end)
-            (HasEnd L.machine L.ends seat.old.place.me.0 of end) }
-        ensures own { seat.new.place.table_id ≡ seat.old.place.table_id }
-        ensures turn { HadTurn seat.old.place.me.0 seat.new.place.me.0 }
-        ensures ok { IfOk result (λ n. EndedOn L.machine L.ends L.claimed L.stopped
-            L.claimed_group L.stopped_group
-            seat.old.place.me.0 seat.new.place.me.0 of end (L.by_join end) n) }
-        ensures err { IfErr result (λ e. (e ≡ end) × IsHalted seat.old.place.me.0
-            seat.new.place.me.0) }
-    {
-        let mut turn = self.enter(rt, &mut seat.place, &mut seat.patience);
-        if turn.halted().is_some() {
-            self.put_home_halted(&mut seat.place, turn);
-            return Err(end);
-        }
-        match self.end_in(&mut seat.place, &mut *turn, of, end) {
-            Ok(()) => Ok(self.take_or_join(&mut seat.place, turn)),
-            Err(end) => {
-                self.put_home_halted(&mut seat.place, turn);
-                Err(end)
-            },
-        }
+        };
+        self.end_in(&mut seat.place, desk, of, end)
     }
 
     /// Enters want of memory, where nothing was entered before.
     pub fn halt<W: Wait>(&self, rt: &W, seat: &mut HubSeat<L>)
         requires own { seat.old.place.table_id ≡ self.now.turn.shared.table_id }
         ensures own { seat.new.place.table_id ≡ seat.old.place.table_id }
-        ensures turn { HadTurn seat.old.place.me.0 seat.new.place.me.0 }
-        ensures halted { IsHalted seat.old.place.me.0 seat.new.place.me.0 }
+        ensures turn { HadTurn seat.old.place.me.0.seat seat.new.place.me.0.seat }
+        ensures halted { IsHalted seat.old.place.me.0.seat seat.new.place.me.0.seat }
     {
         let entered = self.enter(rt, &mut seat.place, &mut seat.patience);
         self.put_home_halted(&mut seat.place, entered);

@@ -1,116 +1,118 @@
 //! The calls of a seat whose joiner stayed with it while the joinee ran there. The joiner takes the
 //! end in without a turn, and the seat enters both in its next one.
-ghost use Rattle.std.specs.Prelude.{◌≡◌, ℕ, List, true, false, IfOk, IfErr, OnOk};
-ghost use Rattle.revision_machine.specs.Numbered.{Bears};
+ghost use Rattle.std.specs.Prelude.{◌≡◌, ◌++◌, ℕ, [], ◌∷◌, true, false, None};
+ghost use Rattle.hub_core.specs.declared.state.HubState.TheVariants.{All};
+ghost use Rattle.hub_core.specs.Journaled.{HasRoomFor};
+ghost use Rattle.hub_core.specs.Tally.{pairs};
+ghost use Rattle.turn_hub.specs.Plans.{settle_deeds, lone_of};
 
+use crate::ending::counted;
 use crate::hub::TurnHub;
-use crate::seat::HubSeat;
-use hub_core::Revision;
+use crate::kept::{number_if, settle_value};
+use crate::seat::{HubSeat, Place};
+use hub_core::{Deed, Desk, Journal, Plan, Revision, Sight};
 use std::sync::Wait;
 
+// The end of the joinee and its join by `of`.
+fn plan_settle(plan: &mut Plan, joinee: u32, of: u32, lone: bool)
+    ensures { (plan.new.deeds.items ≡ settle_deeds joinee of)
+        × (plan.new.leaves ≡ lone_of lone joinee) × (plan.new.keeps ≡ None) }
+{
+    plan.clear();
+    plan.add(Deed::Commits(joinee));
+    plan.add(Deed::HandsIn(joinee));
+    plan.add(Deed::Commits(of));
+    plan.leaves = number_if(lone, joinee);
+}
+
+// The entries of the joinee and of its joiner.
+fn note_settle<E>(journal: &mut Journal<E>, count: u32, joinee: u32, of: u32)
+    requires { HasRoomFor 2 journal.old }
+    ensures entries { pairs journal.new.entries.items
+        ≡ pairs journal.old.entries.items ++ (count, joinee) ∷ (count, of) ∷ [] }
+    ensures limit { journal.new.limit ≡ journal.old.limit }
+{
+    journal.enter(count, joinee);
+    journal.enter(count, of);
+}
+
 impl<L: Revision> TurnHub<L> {
-    ghost use Rattle.hub_core.specs.Passes.{IsPass};
-    ghost use Rattle.hub_core.specs.Seats.{HasJoin, HadTurn, Owes};
-    ghost use Rattle.turn_hub.specs.Answers.{Waited, Settled, ForkedBehind, HaltedBehind, IsHalted};
+    ghost use Rattle.hub_core.specs.Seats.{HadTurn, Owes};
+    ghost use Rattle.turn_hub.specs.Answers.{Settled, IsHalted};
+    ghost use Rattle.turn_hub.specs.Turns.{IsOpen, IsIn, IsResting};
+    ghost use Rattle.turn_hub.specs.Plans.{lone_list};
+
+    // The end of the joinee and the join of it by `of`, both of which this seat has: two entries,
+    // or for want of memory none. The turn is given back.
+    fn settle_in(
+        &self,
+        place: &mut Place<L>,
+        mut desk: Box<Desk<L::Runner, L::AtJoin, L::End>>,
+        lone: bool,
+        joinee: u32,
+        of: u32,
+    ) -> bool
+        requires own { (place.old.table_id ≡ self.now.turn.shared.table_id)
+            × IsOpen place.old.me }
+        requires told { (v : Sight L.State) × (l : L.State)
+            × IsIn L.machine L.ends v place.old.me.0 desk.value
+            × Owes L.machine L.ends v.seat joinee of l }
+        requires free { desk.value.state ≡ All }
+        requires mine { place.old.me.0.mine ≡ lone_list lone joinee }
+        ensures own { place.new.table_id ≡ place.old.table_id }
+        ensures rests { IsResting place.old.me place.new.me }
+        ensures done { result ≡ true → (place.new.me.0.mine ≡ [])
+            × ((v : Sight L.State) → IsIn L.machine L.ends v place.old.me.0 desk.value
+            → (l : L.State) → Owes L.machine L.ends v.seat joinee of l
+            → Settled L.machine L.ends v.seat place.new.me.0.seat joinee of l) }
+        ensures none { result ≡ false → (place.new.me.0.mine ≡ place.old.me.0.mine)
+            × ((v : Sight L.State) → IsIn L.machine L.ends v place.old.me.0 desk.value
+            → IsHalted v.seat place.new.me.0.seat) }
+    {
+        let held = &mut *desk;
+        if !held.journal.reserve(2) {
+            self.put_home_halted(place, desk);
+            return false;
+        }
+        plan_settle(&mut held.plan, joinee, of, lone);
+        let (mut desk, tally) = self.carry_out(place, desk);
+        let last = &mut *desk;
+        settle_value(last, joinee, lone);
+        note_settle(&mut last.journal, counted(tally), joinee, of);
+        self.put_home(place, desk);
+        true
+    }
 
     /// Enters the end of the joinee and the join of it by `of`, which has taken that end in.
     /// `false`: a halt was entered, before or by this call, and neither is an entry.
     pub fn settle<W: Wait>(&self, rt: &W, seat: &mut HubSeat<L>, joinee: u32, of: u32) -> bool
         requires own { seat.old.place.table_id ≡ self.now.turn.shared.table_id }
         requires event { (l : L.State)
-            × Owes L.machine L.ends seat.old.place.me.0 joinee of l }
+            × Owes L.machine L.ends seat.old.place.me.0.seat joinee of l }
         ensures own { seat.new.place.table_id ≡ seat.old.place.table_id }
-        ensures turn { HadTurn seat.old.place.me.0 seat.new.place.me.0 }
+        ensures turn { HadTurn seat.old.place.me.0.seat seat.new.place.me.0.seat }
         ensures done { result ≡ true → (l : L.State)
-            → Owes L.machine L.ends seat.old.place.me.0 joinee of l
-            → Settled L.machine L.ends seat.old.place.me.0 seat.new.place.me.0 joinee of l }
-        ensures halted { result ≡ false → IsHalted seat.old.place.me.0 seat.new.place.me.0 }
+            → Owes L.machine L.ends seat.old.place.me.0.seat joinee of l
+            → Settled L.machine L.ends seat.old.place.me.0.seat seat.new.place.me.0.seat joinee of
+            l }
+        ensures halted { result ≡ false
+            → IsHalted seat.old.place.me.0.seat seat.new.place.me.0.seat }
     {
-        let mut turn = self.enter(rt, &mut seat.place, &mut seat.patience);
-        if turn.halted().is_some() {
-            self.put_home_halted(&mut seat.place, turn);
+        let entered = self.enter_but(
+            rt,
+            &mut seat.place,
+            &mut seat.patience,
+            &mut seat.kept,
+            joinee,
+        );
+        let Some(desk) = entered else {
+            return false;
+        };
+        let lone = seat.kept.is_some();
+        if !self.settle_in(&mut seat.place, desk, lone, joinee, of) {
             return false;
         }
-        if self.settle_in(&mut seat.place, &mut *turn, joinee, of) {
-            self.put_home(&mut seat.place, turn);
-            return true;
-        }
-        self.put_home_halted(&mut seat.place, turn);
-        false
-    }
-
-    /// The same, and in the same turn the fork of `of`, as `fork` does it. The child comes back
-    /// where a halt was entered, before or by this call.
-    pub fn fork_behind<W: Wait>(
-        &self,
-        rt: &W,
-        seat: &mut HubSeat<L>,
-        joinee: u32,
-        of: u32,
-        child: L::Runner,
-    ) -> Result<u32, L::Runner>
-        requires own { seat.old.place.table_id ≡ self.now.turn.shared.table_id }
-        requires event { (l : L.State) × (forker : ℕ → L.State)
-            × Owes L.machine L.ends seat.old.place.me.0 joinee of l
-            × (L.machine.next l ≡ Bears forker (L.machine.runs child)) }
-        requires group { L.machine.runner_group child ≡ seat.old.place.me.0.group }
-        ensures own { seat.new.place.table_id ≡ seat.old.place.table_id }
-        ensures turn { HadTurn seat.old.place.me.0 seat.new.place.me.0 }
-        ensures ok { IfOk result (λ n. (l : L.State)
-            → Owes L.machine L.ends seat.old.place.me.0 joinee of l
-            → ForkedBehind L.machine L.ends seat.old.place.me.0 seat.new.place.me.0
-            joinee of l child n) }
-        ensures err { IfErr result (λ c. (c ≡ child) × ((l : L.State)
-            → Owes L.machine L.ends seat.old.place.me.0 joinee of l
-            → HaltedBehind L.machine L.ends seat.old.place.me.0 seat.new.place.me.0 joinee of l)) }
-    {
-        let mut turn = self.enter(rt, &mut seat.place, &mut seat.patience);
-        if turn.halted().is_some() {
-            self.put_home_halted(&mut seat.place, turn);
-            return Err(child);
-        }
-        if !self.settle_in(&mut seat.place, &mut *turn, joinee, of) {
-            self.put_home_halted(&mut seat.place, turn);
-            return Err(child);
-        }
-        self.fork_in(&mut seat.place, turn, of, child)
-    }
-
-    /// Hands in the joiner `of`, whose joinee this seat has. It comes back where a halt was entered,
-    /// before or by this call.
-    pub fn leave<W: Wait>(
-        &self,
-        rt: &W,
-        seat: &mut HubSeat<L>,
-        of: u32,
-        at: L::AtJoin,
-    ) -> Result<(), L::AtJoin>
-        requires own { seat.old.place.table_id ≡ self.now.turn.shared.table_id }
-        requires event { HasJoin L.machine L.ends seat.old.place.me.0 of at }
-        requires group { L.machine.joiner_group at ≡ seat.old.place.me.0.group }
-        requires joinee { (found : List ℕ)
-            × IsPass seat.old.place.me.0.passes (L.machine.on at) found }
-        ensures own { seat.new.place.table_id ≡ seat.old.place.table_id }
-        ensures turn { HadTurn seat.old.place.me.0 seat.new.place.me.0 }
-        ensures ok { OnOk result (Waited L.machine L.ends seat.old.place.me.0
-            seat.new.place.me.0 of at) }
-        ensures err { IfErr result (λ a. (a ≡ at) × IsHalted seat.old.place.me.0
-            seat.new.place.me.0) }
-    {
-        let mut turn = self.enter(rt, &mut seat.place, &mut seat.patience);
-        if turn.halted().is_some() {
-            self.put_home_halted(&mut seat.place, turn);
-            return Err(at);
-        }
-        match self.keep_in(&mut seat.place, &mut *turn, of, at) {
-            Ok(()) => {
-                self.put_home(&mut seat.place, turn);
-                Ok(())
-            },
-            Err(at) => {
-                self.put_home_halted(&mut seat.place, turn);
-                Err(at)
-            },
-        }
+        seat.kept = None;
+        true
     }
 }

@@ -1,62 +1,200 @@
-//! The calls of a seat that keeps the child of its fork, and of one that hands a revision back.
-ghost use Rattle.std.specs.Prelude.{◌≡◌, ℕ, List, IfOk, IfErr, OnOk};
-ghost use Rattle.revision_machine.specs.Numbered.{Bears, put_number};
-ghost use Rattle.hub_core.specs.declared.status.Status.TheVariants.{Ready};
+//! The calls of a seat that keeps the child of its fork.
+ghost use Rattle.std.specs.Prelude.{◌≡◌, ◌≢◌, ◌<◌, ◌≤◌, ◌+◌, ◌*◌, ℕ, [], Some, None, IfSome, IfOk, IfErr, MatchOption};
+ghost use Rattle.revision_machine.specs.Numbered.{Bears};
 
-use crate::hub::TurnHub;
+use crate::hub::{TALLY, TurnHub};
+use crate::kept::number_if;
 use crate::seat::{HubSeat, Place};
-use hub_core::{Revision, Said, Turn, View};
+use crate::tried::Tried;
+use hub_core::{Desk, DeskSlot, MakeRound, Revision, Round, Sight, append};
 use std::sync::Wait;
+use std::sync::atomic::Ordering;
+
+// So often a seat tries to make a round before it takes the turn.
+const TRIES: u32 = 8;
 
 impl<L: Revision> TurnHub<L> {
+    ghost use Rattle.hub_core.specs.Counts.{times};
+    ghost use Rattle.hub_core.specs.Seats.{HadTurn, Owes};
+    ghost use Rattle.hub_core.specs.Tally.{HasDesk, MadeRound};
     ghost use Rattle.hub_core.specs.declared.state.HubState.TheVariants.{All};
-    ghost use Rattle.hub_core.specs.Rule.{InHand, IsOpen, Told};
-    ghost use Rattle.hub_core.specs.Seats.{HasFork, HasState, HadTurn, IsResting, Owes};
-    ghost use Rattle.hub_core.specs.Views.{hands_in, sees};
-    ghost use Rattle.turn_hub.specs.Answers.{HaltedBehind, IsHalted, IsOneTurn};
-    ghost use Rattle.turn_hub.specs.Keeping.{ForkedOn, KeptBehind, HandedBack};
+    ghost use Rattle.turn_hub.specs.Answers.{HaltedBehind, IsHalted};
+    ghost use Rattle.turn_hub.specs.Turns.{IsOpen, IsIn, IsResting};
+    ghost use Rattle.turn_hub.specs.Plans.{lone_list};
+    ghost use Rattle.turn_hub.specs.Keeping.{KeptBehind};
 
-    // The fork of a revision that this seat has. The seat takes the child, which is the first that
-    // is ready then, and the turn is given back. The child comes back for want of memory.
-    fn fork_taking(
+    // A round, where there are so many revisions. The tally is as it was found.
+    fn try_round(
         &self,
         place: &mut Place<L>,
-        mut turn: Box<Turn<L::Runner, L::AtJoin, L::End>>,
+        number: u32,
+        joinee: u32,
         of: u32,
-        child: L::Runner,
-    ) -> Result<(u32, L::Runner), L::Runner>
-        requires own { (place.old.table_id ≡ self.now.turn.shared.table_id)
-            × IsOpen L.machine L.ends place.old.me }
-        requires told { (v : View L.State) × (said : List Said) × (found : List ℕ)
-            × Told L.machine L.ends v (sees said found place.old.me.0) turn.value
-            × HasFork L.machine L.ends v of child }
-        requires free { turn.value.state ≡ All }
-        requires group { L.machine.runner_group child ≡ place.old.me.0.group }
+        child: &L::Runner,
+    ) -> u64
+        requires own { place.old.table_id ≡ self.now.turn.shared.table_id }
+        requires idle { (place.old.me.0.seat.has ≡ 0) × (0 < place.old.me.0.seat.parts) }
+        requires event { (l : L.State) × (forker : ℕ → L.State)
+            × Owes L.machine L.ends place.old.me.0.seat joinee of l
+            × (L.machine.next l ≡ Bears forker (L.machine.runs child.now)) }
+        requires kept { 0 < times joinee place.old.me.0.mine }
+        requires room { number < place.old.me.0.limit }
         ensures own { place.new.table_id ≡ place.old.table_id }
-        ensures rests { IsResting place.old.me place.new.me }
-        ensures turn { IsOneTurn place.old.me.0 place.new.me.0 }
-        ensures ok { IfOk result (λ r. (v : View L.State) (said : List Said) (found : List ℕ)
-            → Told L.machine L.ends v (sees said found place.old.me.0) turn.value
-            → HasFork L.machine L.ends v of child
-            → ForkedOn L.machine L.ends v (sees said found place.new.me.0) of child r.0 r.1) }
-        ensures err { IfErr result (λ c. (c ≡ child)
-            × ((v : View L.State) (said : List Said) (found : List ℕ)
-            → Told L.machine L.ends v (sees said found place.old.me.0) turn.value
-            → IsHalted v (sees said found place.new.me.0))) }
+        ensures made { result ≡ 2 * number
+            → MadeRound L.machine L.ends place.old.me.0 place.new.me.0 joinee of number
+            × (place.new.me.1 ≡ place.old.me.1) }
+        ensures missed { result ≢ 2 * number → place.new.me ≡ place.old.me }
     {
-        match turn.grow(of, child) {
-            Ok(_) => {
-                self.commit(place, of);
-                Ok(self.take_runner(place, turn))
-            },
-            Err(child) => {
-                self.put_home_halted(place, turn);
-                Err(child)
-            },
-        }
+        let told = DeskSlot::Told(joinee, of);
+        let count = 2 * number as u64;
+        let found = self
+            .turn
+            .shared
+            .compare_exchange_with::<MakeRound<L>>(place, TALLY, count, count + 2, &told);
+        told.spend();
+        found
     }
 
-    /// The same as `fork_behind`, and in the same turn the seat takes the child, as `take` does.
+    // Some tries for a round: the number of the child.
+    fn find_round(
+        &self,
+        place: &mut Place<L>,
+        seen: &mut u64,
+        limit: u32,
+        joinee: u32,
+        of: u32,
+        child: &L::Runner,
+    ) -> Option<u32>
+        requires own { place.old.table_id ≡ self.now.turn.shared.table_id }
+        requires idle { (place.old.me.0.seat.has ≡ 0) × (0 < place.old.me.0.seat.parts) }
+        requires event { (l : L.State) × (forker : ℕ → L.State)
+            × Owes L.machine L.ends place.old.me.0.seat joinee of l
+            × (L.machine.next l ≡ Bears forker (L.machine.runs child.now)) }
+        requires kept { 0 < times joinee place.old.me.0.mine }
+        requires room { limit ≤ place.old.me.0.limit }
+        ensures own { place.new.table_id ≡ place.old.table_id }
+        ensures made { IfSome result (λ n.
+            MadeRound L.machine L.ends place.old.me.0 place.new.me.0 joinee of n
+            × (place.new.me.1 ≡ place.old.me.1)) }
+        ensures missed { result ≡ None → place.new.me ≡ place.old.me }
+    {
+        for _ in 0..TRIES {
+            let count = *seen / 2;
+            if *seen % 2 == 1 || count >= limit as u64 {
+                return None;
+            }
+            let number = count as u32;
+            let found = self.try_round(place, number, joinee, of, child);
+            if found == 2 * number as u64 {
+                *seen = found.saturating_add(2);
+                return Some(number);
+            }
+            *seen = found;
+        }
+        None
+    }
+
+    // The end of the joinee, its join by `of` and the fork of that, by one exchange of the tally
+    // and without the turn, where the seat keeps the joinee. The seat keeps the child.
+    fn make_round(
+        &self,
+        seat: &mut HubSeat<L>,
+        joinee: u32,
+        of: u32,
+        child: &L::Runner,
+    ) -> Option<u32>
+        requires own { seat.old.place.table_id ≡ self.now.turn.shared.table_id }
+        requires event { (l : L.State) × (forker : ℕ → L.State)
+            × Owes L.machine L.ends seat.old.place.me.0.seat joinee of l
+            × (L.machine.next l ≡ Bears forker (L.machine.runs child.now)) }
+        requires group { L.machine.runner_group child.now ≡ seat.old.place.me.0.seat.group }
+        ensures own { seat.new.place.table_id ≡ seat.old.place.table_id }
+        ensures turn { IfSome result (λ _. HadTurn seat.old.place.me.0.seat
+            seat.new.place.me.0.seat) }
+        ensures told { IfSome result (λ n. (l : L.State)
+            → Owes L.machine L.ends seat.old.place.me.0.seat joinee of l
+            → KeptBehind L.machine L.ends seat.old.place.me.0.seat seat.new.place.me.0.seat
+            joinee of l child.now n child.now) }
+        ensures missed { result ≡ None → seat.new.place.me ≡ seat.old.place.me }
+    {
+        if seat.kept != Some(joinee)
+            || self.signs.seekers.load(Ordering::SeqCst) > 0
+            || seat.rounds.try_reserve(1).is_err()
+        {
+            return None;
+        }
+        let number = self.find_round(
+            &mut seat.place,
+            &mut seat.seen,
+            seat.limit,
+            joinee,
+            of,
+            child,
+        )?;
+        append(
+            &mut seat.rounds,
+            Round {
+                child: number,
+                joinee,
+                forker: of,
+            },
+        );
+        seat.kept = Some(number);
+        Some(number)
+    }
+
+    // Tries until the tally is as it was found, or a halt is entered: the number of the child,
+    // whether the seat keeps it, and the limit. The turn is given back.
+    fn keep_in<W: Wait>(
+        &self,
+        rt: &W,
+        place: &mut Place<L>,
+        desk: Box<Desk<L::Runner, L::AtJoin, L::End>>,
+        lone: bool,
+        joinee: u32,
+        of: u32,
+        child: &L::Runner,
+    ) -> Option<(u32, bool, u32)>
+        requires own { (place.old.table_id ≡ self.now.turn.shared.table_id)
+            × IsOpen place.old.me }
+        requires hand { HasDesk L.machine L.ends place.old.me.0 desk.value }
+        requires free { desk.value.state ≡ All }
+        requires mine { place.old.me.0.mine ≡ lone_list lone joinee }
+        requires event { (l : L.State) × (forker : ℕ → L.State)
+            × Owes L.machine L.ends place.old.me.0.seat joinee of l
+            × (L.machine.next l ≡ Bears forker (L.machine.runs child.now)) }
+        requires group { L.machine.runner_group child.now ≡ place.old.me.0.seat.group }
+        ensures own { place.new.table_id ≡ place.old.table_id }
+        ensures rests { IsResting place.old.me place.new.me }
+        ensures told { MatchOption result
+            ((place.new.me.0.mine ≡ place.old.me.0.mine)
+            × ((v : Sight L.State) → IsIn L.machine L.ends v place.old.me.0 desk.value
+            → IsHalted v.seat place.new.me.0.seat))
+            (λ r. (place.new.me.0.mine ≡ lone_list r.1 r.0) × (r.2 ≤ place.new.me.0.limit)
+            × ((v : Sight L.State) → IsIn L.machine L.ends v place.old.me.0 desk.value
+            → (l : L.State) → Owes L.machine L.ends v.seat joinee of l
+            → KeptBehind L.machine L.ends v.seat place.new.me.0.seat joinee of l child.now r.0
+            child.now)) }
+    {
+        let mut desk = desk;
+        for _ in rt.forever() {
+            match self.try_keep(place, desk, lone, joinee, of, child) {
+                Tried::Made {
+                    number,
+                    kept,
+                    limit,
+                } => return Some((number, kept, limit)),
+                Tried::Missed(next) => desk = next,
+                Tried::Halted => return None,
+            }
+        }
+        unreachable!()
+    }
+
+    /// The end of the joinee, the join of it by `of`, which has taken that end in, and the fork of
+    /// `of`, whose child the seat takes. Where the seat keeps the joinee, and in most cases does so
+    /// since its last fork, this needs no turn. The child comes back where a halt was entered,
+    /// before or by this call.
     pub fn fork_and_keep<W: Wait>(
         &self,
         rt: &W,
@@ -67,83 +205,71 @@ impl<L: Revision> TurnHub<L> {
     ) -> Result<(u32, L::Runner), L::Runner>
         requires own { seat.old.place.table_id ≡ self.now.turn.shared.table_id }
         requires event { (l : L.State) × (forker : ℕ → L.State)
-            × Owes L.machine L.ends seat.old.place.me.0 joinee of l
+            × Owes L.machine L.ends seat.old.place.me.0.seat joinee of l
             × (L.machine.next l ≡ Bears forker (L.machine.runs child)) }
-        requires group { L.machine.runner_group child ≡ seat.old.place.me.0.group }
+        requires group { L.machine.runner_group child ≡ seat.old.place.me.0.seat.group }
         ensures own { seat.new.place.table_id ≡ seat.old.place.table_id }
-        ensures turn { HadTurn seat.old.place.me.0 seat.new.place.me.0 }
+        ensures turn { HadTurn seat.old.place.me.0.seat seat.new.place.me.0.seat }
         ensures ok { IfOk result (λ r. (l : L.State)
-            → Owes L.machine L.ends seat.old.place.me.0 joinee of l
-            → KeptBehind L.machine L.ends seat.old.place.me.0 seat.new.place.me.0
+            → Owes L.machine L.ends seat.old.place.me.0.seat joinee of l
+            → KeptBehind L.machine L.ends seat.old.place.me.0.seat seat.new.place.me.0.seat
             joinee of l child r.0 r.1) }
         ensures err { IfErr result (λ c. (c ≡ child) × ((l : L.State)
-            → Owes L.machine L.ends seat.old.place.me.0 joinee of l
-            → HaltedBehind L.machine L.ends seat.old.place.me.0 seat.new.place.me.0 joinee of l)) }
+            → Owes L.machine L.ends seat.old.place.me.0.seat joinee of l
+            → HaltedBehind L.machine L.ends seat.old.place.me.0.seat seat.new.place.me.0.seat
+            joinee of l)) }
     {
-        let mut turn = self.enter(rt, &mut seat.place, &mut seat.patience);
-        if turn.halted().is_some() {
-            self.put_home_halted(&mut seat.place, turn);
-            return Err(child);
+        if let Some(number) = self.make_round(seat, joinee, of, &child) {
+            return Ok((number, child));
         }
-        if !self.settle_in(&mut seat.place, &mut *turn, joinee, of) {
-            self.put_home_halted(&mut seat.place, turn);
-            return Err(child);
+        match self.keep_by_turn(rt, seat, joinee, of, &child) {
+            Some(number) => Ok((number, child)),
+            None => Err(child),
         }
-        self.fork_taking(&mut seat.place, turn, of, child)
     }
 
-    // The hub has a revision again that this seat took, and that is before its leg.
-    fn back_in(
-        &self,
-        place: &mut Place<L>,
-        turn: &mut Turn<L::Runner, L::AtJoin, L::End>,
-        of: u32,
-        runner: L::Runner,
-    )
-        requires own { (place.old.table_id ≡ self.now.turn.shared.table_id)
-            × IsOpen L.machine L.ends place.old.me }
-        requires told { (v : View L.State) × Told L.machine L.ends v place.old.me.0 turn.old
-            × HasState L.machine L.ends v of (L.machine.runs runner) }
-        requires free { turn.old.state ≡ All }
-        requires group { L.machine.runner_group runner ≡ place.old.me.0.group }
-        ensures own { (place.new.table_id ≡ place.old.table_id)
-            × IsOpen L.machine L.ends place.new.me }
-        ensures hand { InHand L.machine L.ends place.new.me.0 turn.new }
-        ensures view { place.new.me.0 ≡ hands_in of place.old.me.0 }
-        ensures slots { turn.new.revisions.slots.items
-            ≡ put_number turn.old.revisions.slots.items of (Ready runner) }
-    {
-        turn.revisions.hand_back(of, runner);
-        self.hand_in(place, of);
-    }
-
-    /// Hands back the revision `of`, which is before its leg: it is ready again, and this is no
-    /// entry. It comes back where a halt was entered.
-    pub fn give_back<W: Wait>(
+    // The same by the turn.
+    fn keep_by_turn<W: Wait>(
         &self,
         rt: &W,
         seat: &mut HubSeat<L>,
+        joinee: u32,
         of: u32,
-        runner: L::Runner,
-    ) -> Result<(), L::Runner>
+        child: &L::Runner,
+    ) -> Option<u32>
         requires own { seat.old.place.table_id ≡ self.now.turn.shared.table_id }
-        requires state { HasState L.machine L.ends seat.old.place.me.0 of
-            (L.machine.runs runner) }
-        requires group { L.machine.runner_group runner ≡ seat.old.place.me.0.group }
+        requires event { (l : L.State) × (forker : ℕ → L.State)
+            × Owes L.machine L.ends seat.old.place.me.0.seat joinee of l
+            × (L.machine.next l ≡ Bears forker (L.machine.runs child.now)) }
+        requires group { L.machine.runner_group child.now ≡ seat.old.place.me.0.seat.group }
         ensures own { seat.new.place.table_id ≡ seat.old.place.table_id }
-        ensures turn { HadTurn seat.old.place.me.0 seat.new.place.me.0 }
-        ensures ok { OnOk result (HandedBack L.machine L.ends seat.old.place.me.0
-            seat.new.place.me.0 of) }
-        ensures err { IfErr result (λ r. (r ≡ runner) × IsHalted seat.old.place.me.0
-            seat.new.place.me.0) }
+        ensures turn { HadTurn seat.old.place.me.0.seat seat.new.place.me.0.seat }
+        ensures told { MatchOption result
+            (IsHalted seat.old.place.me.0.seat seat.new.place.me.0.seat)
+            (λ n. (l : L.State) → Owes L.machine L.ends seat.old.place.me.0.seat joinee of l
+            → KeptBehind L.machine L.ends seat.old.place.me.0.seat seat.new.place.me.0.seat
+            joinee of l child.now n child.now) }
     {
-        let mut turn = self.enter(rt, &mut seat.place, &mut seat.patience);
-        if turn.halted().is_some() {
-            self.put_home_halted(&mut seat.place, turn);
-            return Err(runner);
-        }
-        self.back_in(&mut seat.place, &mut *turn, of, runner);
-        self.put_home(&mut seat.place, turn);
-        Ok(())
+        let desk = self.enter_but(
+            rt,
+            &mut seat.place,
+            &mut seat.patience,
+            &mut seat.kept,
+            joinee,
+        )?;
+        let lone = seat.kept.is_some();
+        let (number, kept, limit) = self.keep_in(
+            rt,
+            &mut seat.place,
+            desk,
+            lone,
+            joinee,
+            of,
+            child,
+        )?;
+        seat.kept = number_if(kept, number);
+        seat.limit = limit;
+        seat.seen = 2 * number as u64 + 2;
+        Some(number)
     }
 }

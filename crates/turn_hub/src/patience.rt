@@ -33,6 +33,7 @@ pub struct Patience {
 }
 
 impl Patience {
+    /// That of a thread which has found no turn taken yet.
     pub fn new() -> Patience
         ensures { result.taken ≡ 0 }
     {

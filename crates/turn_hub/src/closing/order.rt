@@ -3,7 +3,7 @@ ghost use Rattle.std.specs.Prelude.{◌≡◌};
 
 use crate::closing::HubRun;
 use atomic_table::Badge;
-use hub_core::{HubState, Revision, View};
+use hub_core::{HubState, Revision, Sight};
 
 /// The schedule of a run that a hub kept, without the ends, so that it borrows nothing. It is made
 /// of a `HubRun` alone. It tells where the run began, and what its snapshots belonged to.
@@ -12,7 +12,7 @@ pub struct HubSchedule<S> {
     numbers: Vec<u32>,
     forkers: Vec<u32>,
     state: HubState,
-    witness: Badge<View<S>>,
+    witness: Badge<Sight<S>>,
 }
 
 impl<S> HubSchedule<S> {

@@ -20,7 +20,7 @@ join-requires-clause-event g c =
     let r = c.requires.comes in
     let comes : ComesTo g.L.Revision.machine g.L.Revision.ends g.L.Revision.by_join g.L.Legs.forker g.L.Legs.child r.0
     (event.Join c.in-Join.at) = search rules in
-    joins_leg g.L.Revision.machine g.L.Revision.ends c.clear.new.seat.place.me.0 c.args.number r.0 c.in-Join.at
+    joins_leg g.L.Revision.machine g.L.Revision.ends c.clear.new.seat.place.me.0.seat c.args.number r.0 c.in-Join.at
     (c.clear.ensures.state by r.0 r.1) comes
 
 pub hand_in-requires-clause-event : goal.hand_in-requires-clause-event
@@ -29,7 +29,8 @@ hand_in-requires-clause-event g c =
     let r = c.requires.comes in
     let comes : ComesTo g.L.Revision.machine g.L.Revision.ends g.L.Revision.by_join g.L.Legs.forker g.L.Legs.child r.0
     (event.End c.in-End.end) = search rules in
-    ends_here g.L.Revision.machine g.L.Revision.ends g.L.Revision.by_join c.clear.new.seat.place.me.0 c.args.number r.0
+    ends_here g.L.Revision.machine g.L.Revision.ends g.L.Revision.by_join c.clear.new.seat.place.me.0.seat c.args.number
+    r.0
     c.in-End.end (c.clear.ensures.state by r.0 r.1) comes
 
 pub returns-in-Fork-clause-only : goal.returns-in-Fork-clause-only

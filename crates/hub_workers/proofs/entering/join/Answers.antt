@@ -24,22 +24,22 @@ returns-in-Waits-clause-only g c =
 pub returns-in-Came-clause-same : goal.returns-in-Came-clause-same
 returns-in-Came-clause-same g c =
     (came_so g.L.Revision.machine g.L.Revision.ends g.L.Revision.claimed g.L.Revision.stopped
-    g.L.Revision.claimed_group g.L.Revision.stopped_group c.args.seat.now.place.me.0
-    c.join_or_take.new.seat.place.me.0 c.args.number c.args.at c.in-Came.answer c.requires.group
+    g.L.Revision.claimed_group g.L.Revision.stopped_group c.args.seat.now.place.me.0.seat
+    c.join_or_take.new.seat.place.me.0.seat c.args.number c.args.at c.in-Came.answer c.requires.group
     c.in-Came.ensures.answer.1).0
 
 pub returns-in-Came-clause-next : goal.returns-in-Came-clause-next
 returns-in-Came-clause-next g c =
     (came_so g.L.Revision.machine g.L.Revision.ends g.L.Revision.claimed g.L.Revision.stopped
-    g.L.Revision.claimed_group g.L.Revision.stopped_group c.args.seat.now.place.me.0
-    c.join_or_take.new.seat.place.me.0 c.args.number c.args.at c.in-Came.answer c.requires.group
+    g.L.Revision.claimed_group g.L.Revision.stopped_group c.args.seat.now.place.me.0.seat
+    c.join_or_take.new.seat.place.me.0.seat c.args.number c.args.at c.in-Came.answer c.requires.group
     c.in-Came.ensures.answer.1).1
 
 pub returns-in-Came-clause-only : goal.returns-in-Came-clause-only
 returns-in-Came-clause-only g c =
     came_only g.L.Revision.machine g.L.Revision.ends g.L.Revision.claimed g.L.Revision.stopped
-    g.L.Revision.claimed_group g.L.Revision.stopped_group c.args.seat.now.place.me.0
-    c.join_or_take.new.seat.place.me.0 c.args.number c.args.at c.in-Came.answer c.in-Came.ensures.answer.1
+    g.L.Revision.claimed_group g.L.Revision.stopped_group c.args.seat.now.place.me.0.seat
+    c.join_or_take.new.seat.place.me.0.seat c.args.number c.args.at c.in-Came.answer c.in-Came.ensures.answer.1
 
 pub returns-in-Joinee-clause-same : goal.returns-in-Joinee-clause-same
 returns-in-Joinee-clause-same g c =

@@ -7,7 +7,8 @@ use Rattle.hub_workers.proofs.stepping.step.Goals as goal
 
 pub run_leg-requires-clause-state : goal.run_leg-requires-clause-state
 run_leg-requires-clause-state g c =
-    reached_behind g.L.Revision.machine g.L.Revision.ends g.L.Legs.begins g.L.Legs.hand_group c.args.seat.now.place.me.0
+    reached_behind g.L.Revision.machine g.L.Revision.ends g.L.Legs.begins g.L.Legs.hand_group
+    c.args.seat.now.place.me.0.seat
     c.args.number (g.L.Revision.machine.runs c.args.runner) c.args.behind c.args.hand.now c.requires.state
     c.requires.hand
 
@@ -22,7 +23,8 @@ go_on-requires-clause-group g c =
 
 pub give_up_behind-requires : goal.give_up_behind-requires
 give_up_behind-requires g c =
-    let of = hand_on g.L.Legs.begins g.L.Legs.hand_group c.args.seat.now.place.me.0 c.args.hand.now c.run_leg.new.hand
+    let of = hand_on g.L.Legs.begins g.L.Legs.hand_group c.args.seat.now.place.me.0.seat c.args.hand.now
+    c.run_leg.new.hand
     c.requires.hand c.run_leg.ensures.hand in
-    behind_of g.L.Revision.machine g.L.Revision.ends g.L.Legs.begins g.L.Legs.hand_group c.args.seat.now.place.me.0
+    behind_of g.L.Revision.machine g.L.Revision.ends g.L.Legs.begins g.L.Legs.hand_group c.args.seat.now.place.me.0.seat
     c.args.number (g.L.Revision.machine.runs c.args.runner) c.args.behind c.run_leg.new.hand c.requires.state of

@@ -11,5 +11,5 @@ loop-preserved-in-Run g c =
       (e.same.0 ∙ i.1.0, e.same.1 ∙ i.1.1, e.same.2 ∙ i.1.2),
       e.hand,
       e.next,
-      λ o. e.only (subst (λ n. OnlyNext c.loop.seat.place.me.0 n) c.in-Run.is (i.4 o)),
+      λ o. e.only (subst (λ n. OnlyNext c.loop.seat.place.me.0.seat n) c.in-Run.is (i.4 o)),
     )

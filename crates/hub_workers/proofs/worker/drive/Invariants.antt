@@ -8,8 +8,8 @@ use Rattle.hub_workers.proofs.worker.drive.Given as goal
 abbrev pub invariant-loop : goal.invariant-loop
 invariant-loop g l =
     (l.seat.place.table_id ≡ l.initial.seat.place.table_id)
-    × IsSameSeat l.initial.seat.place.me.0 l.seat.place.me.0
-    × IsHandOf g.L.Legs.begins g.L.Legs.hand_group l.seat.place.me.0 l.hand
+    × IsSameSeat l.initial.seat.place.me.0.seat l.seat.place.me.0.seat
+    × IsHandOf g.L.Legs.begins g.L.Legs.hand_group l.seat.place.me.0.seat l.hand
     × HasNext g.L.Revision.machine g.L.Revision.ends g.L.Revision.claimed g.L.Revision.stopped
-    g.L.Revision.claimed_group g.L.Revision.stopped_group l.seat.place.me.0 l.next
-    × (OnlyNext l.initial.seat.place.me.0 l.initial.next → OnlyNext l.seat.place.me.0 l.next)
+    g.L.Revision.claimed_group g.L.Revision.stopped_group l.seat.place.me.0.seat l.next
+    × (OnlyNext l.initial.seat.place.me.0.seat l.initial.next → OnlyNext l.seat.place.me.0.seat l.next)

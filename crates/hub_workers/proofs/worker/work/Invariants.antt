@@ -8,6 +8,6 @@ use Rattle.hub_workers.proofs.worker.work.Given as goal
 abbrev pub invariant-loop : goal.invariant-loop
 invariant-loop g l =
     (l.seat.place.table_id ≡ l.initial.seat.place.table_id)
-    × IsSameSeat l.initial.seat.place.me.0 l.seat.place.me.0
-    × IsHandOf g.L.Legs.begins g.L.Legs.hand_group l.seat.place.me.0 l.hand
-    × (HasHandedIn l.initial.seat.place.me.0 → HasHandedIn l.seat.place.me.0)
+    × IsSameSeat l.initial.seat.place.me.0.seat l.seat.place.me.0.seat
+    × IsHandOf g.L.Legs.begins g.L.Legs.hand_group l.seat.place.me.0.seat l.hand
+    × (HasHandedIn l.initial.seat.place.me.0.seat → HasHandedIn l.seat.place.me.0.seat)

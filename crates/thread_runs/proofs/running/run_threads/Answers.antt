@@ -6,7 +6,7 @@ use Rattle.code_machine_laws.specs.Outcomes.{HasOutcome}
 use Rattle.merge_kernels.specs.Terms.{definition}
 use Rattle.rev_vm.specs.Starts.{run_under}
 use Rattle.rev_workers.specs.Plans.{IsPlanFor}
-use Rattle.hub_core.specs.Views.{first_of}
+use Rattle.turn_hub.specs.Seats.{first_of}
 use Rattle.code_runs.proofs.WorldsAndRuns.{of_run}
 use Rattle.turn_hub.specs.Names.{run_forkers, run_ends}
 use Rattle.thread_runs.specs.Ends.{AreOwned}

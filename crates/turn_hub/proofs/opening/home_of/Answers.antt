@@ -1,4 +1,4 @@
--- Answers of home_of: the list of homes has the box with the turn and nothing else.
+-- Answers of home_of: the list of homes has the box with the value and nothing else.
 use Rattle.std.proofs.Common.{rules}
 use Rattle.turn_hub.proofs.opening.home_of.Goals as goal
 

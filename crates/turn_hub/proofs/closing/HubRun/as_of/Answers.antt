@@ -1,7 +1,7 @@
 -- Answers of HubRun::as_of: a machine that steps alike and has the same ends keeps whatever run was kept.
 use Rattle.std.proofs.Math.Logic.{∥∥₁_elim}
-use Rattle.hub_core.specs.Views.{first_of}
 use Rattle.turn_hub.proofs.Closes.{retyped}
+use Rattle.turn_hub.specs.Seats.{first_of}
 use Rattle.turn_hub.proofs.closing.HubRun.as_of.Goals as goal
 
 pub invariant_of-result : goal.invariant_of-result

@@ -1,45 +1,40 @@
--- Answers of TurnHub::keep_in: the revision is out, so its slot takes the joiner until the joinee has ended.
-use Rattle.std.proofs.Common.{refl, ap, subst}
-use Rattle.hub_core.specs.Chains.{DelaysOne}
-use Rattle.hub_core.proofs.Queues.{out_within, queue_delay, queue_kept}
-use Rattle.hub_core.proofs.Turns.{waits, moved_hand, same_hand, has_pass, still_out}
+-- Answers of TurnHub::keep_in: what a try tells is told of the value that the seat had at first.
+use Rattle.std.proofs.Common.{sym, ◌∙◌, subst, arith}
+use Rattle.hub_core.specs.Seats.{Owes}
 use Rattle.turn_hub.proofs.hub.TurnHub.keep_in.Goals as goal
 
-pub keep-requires-clause-out : goal.keep-requires-clause-out
-keep-requires-clause-out g c = let event = c.requires.told.2 in still_out _ _ _ _ c.requires.told.1 event.3
+pub try_keep-requires-clause-event : goal.try_keep-requires-clause-event
+try_keep-requires-clause-event g c =
+    let e = c.requires.event in (
+      e.0,
+      e.1,
+      subst (λ x. Owes g.L.Revision.machine g.L.Revision.ends x c.args.joinee c.args.of e.0) (sym
+          c.loop.invariant.5) e.2,
+      e.3,
+    )
 
-pub keep-requires-clause-queue : goal.keep-requires-clause-queue
-keep-requires-clause-queue g c =
-    let told = c.requires.told.1 in
-    let event = c.requires.told.2 in
-    (out_within g.L.Revision.machine _ _ _ _ told.hand.holds.queued (still_out _ _ _ _ told event.3)).0
+pub returns-in-Made-clause-told : goal.returns-in-Made-clause-told
+returns-in-Made-clause-told g c =
+    let t = c.in-Made.ensures.told in
+    (t.1, t.2, (λ v h l owes. t.3 v (c.loop.invariant.8 v h) l owes))
 
-pub hand_in-requires-clause-has : goal.hand_in-requires-clause-has
-hand_in-requires-clause-has g c =
-    let told = c.requires.told.1 in
-    let event = c.requires.told.2 in
-    (told.hand.has, has_pass _ _ _ _ told event.3)
+pub loop-preserved : goal.loop-preserved
+loop-preserved g c =
+    let i = c.loop.invariant in
+    let t = c.in-Missed.ensures.told in
+    let a = t.6 in
+    let b = i.7 in (
+      c.try_keep.ensures.own ∙ i.0,
+      t.0,
+      t.1,
+      t.2,
+      t.3 ∙ i.4,
+      t.4 ∙ i.5,
+      t.5 ∙ i.6,
+      omega arith,
+      (λ v h. t.7 v (i.8 v h)),
+    )
 
-pub returns-in-Ok-clause-hand : goal.returns-in-Ok-clause-hand
-returns-in-Ok-clause-hand g c =
-    let told = c.requires.told.1 in
-    let event = c.requires.told.2 in
-    let is = c.in-Ok.ensures.ok in
-    let delays =
-    subst (DelaysOne c.args.turn.now.revisions.queue c.keep.new.self.queue c.args.of) c.on-on.ensures is.1 in
-    let queued =
-    queue_delay g.L.Revision.machine _ _ told.hand.holds.queued (still_out _ _ _ _ told event.3)
-    c.requires.waits delays in
-    moved_hand _ _ (waits _ _ _ _ c.args.turn.now _ _ _ told c.requires.free event c.requires.group
-    (refl, is.0, c.keep.ensures.forkers, c.requires.free, queued))
-    (ap (λ m. m.0) c.hand_in.ensures.after)
-
-pub returns-in-Err-clause-hand : goal.returns-in-Err-clause-hand
-returns-in-Err-clause-hand g c =
-    let is = c.in-Err.ensures.err in
-    let hand = c.requires.told.1.hand in
-    same_hand _ _ _ c.args.turn.now _ hand
-    (refl, is.1, c.keep.ensures.forkers, refl, queue_kept g.L.Revision.machine _ _ _ hand.holds.queued is.2)
-
-pub returns-in-Ok-clause-ok : goal.returns-in-Ok-clause-ok
-returns-in-Ok-clause-ok g c = (ap (λ m. m.0) c.hand_in.ensures.after, c.in-Ok.ensures.ok.0)
+pub returns-in-Halted-clause-told : goal.returns-in-Halted-clause-told
+returns-in-Halted-clause-told g c =
+    let t = c.in-Halted.ensures.told in (t.1 ∙ c.loop.invariant.4, (λ v h. t.2 v (c.loop.invariant.8 v h)))

@@ -1,0 +1,12 @@
+-- Answers of TurnHub::pass_home: with the value in its slot the seat may give the turn up.
+use Rattle.std.proofs.Common.{sym, ap, subst}
+use Rattle.hub_core.specs.Tally.{HasDesk}
+use Rattle.turn_hub.proofs.hub.TurnHub.pass_home.Goals as goal
+
+pub pass-requires-clause-hand : goal.pass-requires-clause-hand
+pass-requires-clause-hand g c = let e = c.put_in_desk.ensures.after in (
+  c.args.desk,
+  subst (λ v. HasDesk g.L.Revision.machine g.L.Revision.ends v c.args.desk.value) (sym (ap (λ m. m.0) e))
+      c.requires.hand,
+  ap (λ m. m.1) e,
+)
