@@ -1,18 +1,14 @@
 -- What is noted where notes are on. Those that are off stay off, and need no places.
---   is_on           whether they are on
 --   HasPlaces       notes of as many locations and of as many positions of the input as there are
 --   HasPlacesIfOn   the same of notes that are on
 --   HasMarkedIfOn   notes that are on have these marks more, and no others
+--   HasNoted        the same after a call that notes, and after one that does not they are as they were
 use Rattle.std.specs.Prelude.{ℕ, ◌≡◌, ◌<◌, ◌^◌, ℤ, Bool, true, false, List, length}
 use Rattle.version_map.specs.Deltas.{locations}
 use Rattle.block_run.specs.declared.notes.ReadMarks.{ReadMarks}
 use Rattle.block_run.specs.declared.notes.Notes.{Notes}
 use Rattle.block_run.specs.declared.notes.Notes.TheVariants as notes
 use Rattle.block_run.specs.Marks.{Mark, HasMarked}
-
-abbrev pub is_on : Notes → Bool
-is_on notes.Off = false
-is_on (notes.On noted) = true
 
 -- of so many locations, and of this input, whose positions are numbers of 32 bits
 pub record HasPlaces (size : ℕ) (inputs : List ℤ) (noted : ReadMarks) : Type 0 where
@@ -29,3 +25,7 @@ HasMarkedIfOn notes.Off notes.Off ms = Unit {0}
 HasMarkedIfOn notes.Off (notes.On new) ms = ⊥
 HasMarkedIfOn (notes.On old) notes.Off ms = ⊥
 HasMarkedIfOn (notes.On old) (notes.On new) ms = HasMarked old new ms
+
+abbrev pub HasNoted : (noting : Bool) → (old new : Notes) → List Mark → Type 0
+HasNoted false old new ms = new ≡ old
+HasNoted true old new ms = HasMarkedIfOn old new ms

@@ -14,7 +14,7 @@ ghost use Rattle.block_run.specs.Deeds.{registers_after, run_after, stop_after, 
 ghost use Rattle.block_run.specs.Deeds.{Fits, IsDeedOf};
 ghost use Rattle.block_run.specs.Marks.{plain_marks};
 ghost use Rattle.block_run.specs.Stops.{stop_of};
-ghost use Rattle.block_run.specs.WhereOn.{HasMarkedIfOn, HasPlacesIfOn, is_on};
+ghost use Rattle.block_run.specs.WhereOn.{HasNoted, HasPlacesIfOn};
 
 use crate::deed::{Deed, settle};
 use crate::marking::{note_count_input, note_load, note_load_cell, note_load_input};
@@ -226,7 +226,7 @@ fn act_check_cell(
 
 /// Does one instruction up to what it leaves to be done, and notes what `act` notes.
 #[inline(always)]
-fn deed_of<P: Snapshot, const ON: bool>(
+fn deed_of<P: Snapshot, const NOTING: bool>(
     code: &Code,
     table: &[Variable],
     inputs: &[i64],
@@ -243,8 +243,7 @@ fn deed_of<P: Snapshot, const ON: bool>(
     requires placed { IsPlaced b.now r.old (length words.old) (taken x.now) }
     requires room { r.old.top + pushes x.now ≤ length words.old }
     requires places { HasPlacesIfOn (P.size memory.old.snapshot) inputs.now notes.old }
-    requires on { is_on notes.old ≡ ON }
-    ensures marked { HasMarkedIfOn notes.old notes.new (plain_marks code.now.vars inputs.now
+    ensures marked { HasNoted NOTING notes.old notes.new (plain_marks code.now.vars inputs.now
         (at memory.old.first.roots) (run_of b.now words.old r.old) x.now) }
     ensures does { Does (p.plain code.now.vars inputs.now
         (under memory.old.delta (P.base memory.old.snapshot))
@@ -274,7 +273,7 @@ fn deed_of<P: Snapshot, const ON: bool>(
         Instr::StoreLocal(n) => values::act_store(b, words, r, n),
         Instr::LoadShared(v) => {
             let t = scalar_at(code, table, v);
-            note_load::<P, ON>(code, inputs, memory, t, v, notes);
+            note_load::<P, NOTING>(code, inputs, memory, t, v, notes);
             act_load_shared(code, b, memory, words, r, v, t)
         },
         Instr::StoreShared(v) => {
@@ -283,7 +282,7 @@ fn deed_of<P: Snapshot, const ON: bool>(
         },
         Instr::LoadCell(v) => {
             let t = array_at(code, table, v);
-            note_load_cell::<P, ON>(code, inputs, b, memory, words, r, t, v, notes);
+            note_load_cell::<P, NOTING>(code, inputs, b, memory, words, r, t, v, notes);
             act_load_cell(code, b, memory, words, r, v, t)
         },
         Instr::StoreCell(v) => {
@@ -295,11 +294,11 @@ fn deed_of<P: Snapshot, const ON: bool>(
             act_check_cell(code, b, words, r, v, t)
         },
         Instr::LoadInput => {
-            note_load_input::<ON>(inputs, b, words, r, notes);
+            note_load_input::<NOTING>(inputs, b, words, r, notes);
             values::act_load_input(b, words, r, inputs)
         },
         Instr::CountInput => {
-            note_count_input::<ON>(notes);
+            note_count_input::<NOTING>(notes);
             values::act_count_input(b, words, r, inputs)
         },
         Instr::Add => values::act_add(b, words, r),
@@ -331,11 +330,11 @@ fn deed_of<P: Snapshot, const ON: bool>(
     }
 }
 
-/// Does one instruction of a block, unless it leaves the block or meets another revision. Where notes
-/// are on it notes what the instruction reads. `ON` says whether they are, so that the compiler makes
-/// code of each case, and where they are off nothing looks at them.
+/// Does one instruction of a block, unless it leaves the block or meets another revision. With
+/// `NOTING` it notes what the instruction reads where notes are on, and without it nothing looks at
+/// the notes, so that the compiler makes code of each case.
 #[inline(always)]
-pub fn act<P: Snapshot, const ON: bool>(
+pub fn act<P: Snapshot, const NOTING: bool>(
     code: &Code,
     table: &[Variable],
     inputs: &[i64],
@@ -352,8 +351,7 @@ pub fn act<P: Snapshot, const ON: bool>(
     requires placed { IsPlaced b.now r.old (length words.old) (taken x.now) }
     requires room { r.old.top + pushes x.now ≤ length words.old }
     requires places { HasPlacesIfOn (P.size memory.old.snapshot) inputs.now notes.old }
-    requires on { is_on notes.old ≡ ON }
-    ensures marked { HasMarkedIfOn notes.old notes.new (plain_marks code.now.vars inputs.now
+    ensures marked { HasNoted NOTING notes.old notes.new (plain_marks code.now.vars inputs.now
         (at memory.old.first.roots) (run_of b.now words.old r.old) x.now) }
     ensures does { Does (p.plain code.now.vars inputs.now
         (under memory.old.delta (P.base memory.old.snapshot))
@@ -372,6 +370,6 @@ pub fn act<P: Snapshot, const ON: bool>(
     ensures size { P.size memory.new.snapshot ≡ P.size memory.old.snapshot }
     ensures group { P.group memory.new.snapshot ≡ P.group memory.old.snapshot }
 {
-    let deed = deed_of::<P, ON>(code, table, inputs, b, memory, words, r, x, notes);
+    let deed = deed_of::<P, NOTING>(code, table, inputs, b, memory, words, r, x, notes);
     settle(words, r, deed)
 }

@@ -8,7 +8,7 @@ ghost use Rattle.block_run.specs.Area.{run_of, IsPlaced, IsVariable};
 ghost use Rattle.block_run.specs.Marks as marks;
 ghost use Rattle.block_run.specs.Marks.{HasMarked, cell_marks, if_first, input_marks};
 ghost use Rattle.block_run.specs.Marks.{place_marks, scalar_marks};
-ghost use Rattle.block_run.specs.WhereOn.{HasMarkedIfOn, HasPlacesIfOn, is_on};
+ghost use Rattle.block_run.specs.WhereOn.{HasNoted, HasPlacesIfOn};
 
 use crate::memory::Memory;
 use crate::notes::{Notes, ReadMarks};
@@ -118,9 +118,9 @@ fn note_element<P: Snapshot>(
     note_cell(memory, t, top(b, words, r), noted);
 }
 
-/// Notes a scalar that is read, where notes are on, which `ON` says.
+/// Notes a scalar that is read, with `NOTING` and where notes are on.
 #[inline(always)]
-pub(crate) fn note_load<P: Snapshot, const ON: bool>(
+pub(crate) fn note_load<P: Snapshot, const NOTING: bool>(
     code: &Code,
     inputs: &[i64],
     memory: &Memory<P>,
@@ -130,19 +130,18 @@ pub(crate) fn note_load<P: Snapshot, const ON: bool>(
 )
     requires variable { IsVariable (scalar code.now.vars v) t (P.size memory.now.snapshot) }
     requires places { HasPlacesIfOn (P.size memory.now.snapshot) inputs.now notes.old }
-    requires on { is_on notes.old ≡ ON }
-    ensures { HasMarkedIfOn notes.old notes.new
+    ensures { HasNoted NOTING notes.old notes.new
         (scalar_marks (at memory.now.first.roots) (scalar code.now.vars v)) }
 {
     match notes {
-        Notes::On(noted) if ON => note_scalar(code, memory, t, v, noted),
+        Notes::On(noted) if NOTING => note_scalar(code, memory, t, v, noted),
         _ => {},
     }
 }
 
-/// Notes a cell that is read, by the index on top, where notes are on, which `ON` says.
+/// Notes a cell that is read, by the index on top, with `NOTING` and where notes are on.
 #[inline(always)]
-pub(crate) fn note_load_cell<P: Snapshot, const ON: bool>(
+pub(crate) fn note_load_cell<P: Snapshot, const NOTING: bool>(
     code: &Code,
     inputs: &[i64],
     b: &CodeBlock,
@@ -157,20 +156,19 @@ pub(crate) fn note_load_cell<P: Snapshot, const ON: bool>(
     requires variable { IsVariable (array code.now.vars v) t (P.size memory.now.snapshot) }
     requires few { t.first + t.cells < 2 ^ 32 }
     requires places { HasPlacesIfOn (P.size memory.now.snapshot) inputs.now notes.old }
-    requires on { is_on notes.old ≡ ON }
-    ensures { HasMarkedIfOn notes.old notes.new (cell_marks (at memory.now.first.roots)
+    ensures { HasNoted NOTING notes.old notes.new (cell_marks (at memory.now.first.roots)
         (array code.now.vars v) (run_of b.now words.now r.now).stack) }
 {
     match notes {
-        Notes::On(noted) if ON => note_element(code, b, memory, words, r, t, v, noted),
+        Notes::On(noted) if NOTING => note_element(code, b, memory, words, r, t, v, noted),
         _ => {},
     }
 }
 
-/// Notes a position of the input that is read, by the index on top, where notes are on, which `ON`
-/// says.
+/// Notes a position of the input that is read, by the index on top, with `NOTING` and where notes are
+/// on.
 #[inline(always)]
-pub(crate) fn note_load_input<const ON: bool>(
+pub(crate) fn note_load_input<const NOTING: bool>(
     inputs: &[i64],
     b: &CodeBlock,
     words: &[u64],
@@ -179,24 +177,22 @@ pub(crate) fn note_load_input<const ON: bool>(
 )
     requires placed { IsPlaced b.now r.now (length words.now) 1 }
     requires places { (size : ℕ) × HasPlacesIfOn size inputs.now notes.old }
-    requires on { is_on notes.old ≡ ON }
-    ensures { HasMarkedIfOn notes.old notes.new
+    ensures { HasNoted NOTING notes.old notes.new
         (input_marks inputs.now (run_of b.now words.now r.now).stack) }
 {
     match notes {
-        Notes::On(noted) if ON => note_position(inputs, top(b, words, r), noted),
+        Notes::On(noted) if NOTING => note_position(inputs, top(b, words, r), noted),
         _ => {},
     }
 }
 
-/// Notes the count of inputs, where notes are on, which `ON` says.
+/// Notes the count of inputs, with `NOTING` and where notes are on.
 #[inline(always)]
-pub(crate) fn note_count_input<const ON: bool>(notes: &mut Notes)
-    requires on { is_on notes.old ≡ ON }
-    ensures { HasMarkedIfOn notes.old notes.new (marks.count ∷ []) }
+pub(crate) fn note_count_input<const NOTING: bool>(notes: &mut Notes)
+    ensures { HasNoted NOTING notes.old notes.new (marks.count ∷ []) }
 {
     match notes {
-        Notes::On(noted) if ON => note_count(noted),
+        Notes::On(noted) if NOTING => note_count(noted),
         _ => {},
     }
 }

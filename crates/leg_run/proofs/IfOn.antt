@@ -1,10 +1,10 @@
 -- Notes that may be off.
-use Rattle.std.proofs.Common.{◌≡◌, ◌∙◌, ℕ, ℤ, true, List, [], ◌++◌, refl, sym, ap, subst}
+use Rattle.std.proofs.Common.{◌≡◌, ◌∙◌, ℕ, ℤ, Bool, true, false, List, [], ◌++◌, refl, sym, subst}
 use Rattle.block_run.specs.declared.notes.ReadMarks.{ReadMarks}
 use Rattle.block_run.specs.declared.notes.Notes.{Notes}
 use Rattle.block_run.specs.declared.notes.Notes.TheVariants as notes
 use Rattle.block_run.specs.Marks.{Mark, HasMarked}
-use Rattle.block_run.specs.WhereOn.{HasPlaces, HasPlacesIfOn, HasMarkedIfOn, is_on}
+use Rattle.block_run.specs.WhereOn.{HasPlaces, HasPlacesIfOn, HasMarkedIfOn, HasNoted}
 use Rattle.leg_run.proofs.Adding.{none_marked, marked_more}
 
 -- ---- marks
@@ -32,17 +32,16 @@ marked_back old back x y ms e f h = by y f (subst (λ z. HasMarkedIfOn z y ms) e
     by notes.Off f h = absurd h
     by (notes.On own) f h = subst (λ b. HasMarked old b ms) (sym (f own refl)) h
 
--- ---- whether they are on
+-- ---- noted or not
 
-pub on_of : (x : Notes) (a : ReadMarks) → x ≡ notes.On a → is_on x ≡ true
-on_of x a e = ap is_on e
+pub none_noted : (noting : Bool) (x : Notes) → HasNoted noting x x []
+none_noted false x = refl
+none_noted true x = none_marked_if_on x
 
--- marks leave them on, or off
-pub on_still : (x y : Notes) (ms : List Mark) → HasMarkedIfOn x y ms → is_on y ≡ is_on x
-on_still notes.Off notes.Off ms h = refl
-on_still notes.Off (notes.On b) ms h = absurd h
-on_still (notes.On a) notes.Off ms h = absurd h
-on_still (notes.On a) (notes.On b) ms h = refl
+pub more_noted : (noting : Bool) (x y z : Notes) (ms ns : List Mark) → HasNoted noting x y ms
+    → HasNoted noting y z ns → HasNoted noting x z (ms ++ ns)
+more_noted false x y z ms ns h k = k ∙ h
+more_noted true x y z ms ns h k = marked_more_if_on x y z ms ns h k
 
 -- ---- places
 
@@ -55,13 +54,19 @@ pub places_of : (size : ℕ) (inputs : List ℤ) (x : Notes) (a : ReadMarks) →
 places_of size inputs x a e h = subst (HasPlacesIfOn size inputs) (sym e) h
 
 -- marks leave the places
-pub places_still : (size size' : ℕ) (inputs : List ℤ) (x y : Notes) (ms : List Mark) → size' ≡ size
+places_kept : (size size' : ℕ) (inputs : List ℤ) (x y : Notes) (ms : List Mark) → size' ≡ size
     → HasMarkedIfOn x y ms → HasPlacesIfOn size inputs x → HasPlacesIfOn size' inputs y
-places_still size size' inputs notes.Off notes.Off ms e h k = tt
-places_still size size' inputs notes.Off (notes.On b) ms e h k = absurd h
-places_still size size' inputs (notes.On a) notes.Off ms e h k = absurd h
-places_still size size' inputs (notes.On a) (notes.On b) ms e h k = record {
+places_kept size size' inputs notes.Off notes.Off ms e h k = tt
+places_kept size size' inputs notes.Off (notes.On b) ms e h k = absurd h
+places_kept size size' inputs (notes.On a) notes.Off ms e h k = absurd h
+places_kept size size' inputs (notes.On a) (notes.On b) ms e h k = record {
   of_locations = h.size ∙ k.of_locations ∙ sym e;
   of_positions = h.positions ∙ k.of_positions;
   few = k.few;
 }
+
+pub places_still : (noting : Bool) (size size' : ℕ) (inputs : List ℤ) (x y : Notes) (ms : List Mark) → size' ≡ size
+    → HasNoted noting x y ms → HasPlacesIfOn size inputs x → HasPlacesIfOn size' inputs y
+places_still false size size' inputs x y ms e h k =
+    subst (λ n. HasPlacesIfOn n inputs y) (sym e) (subst (HasPlacesIfOn size inputs) (sym h) k)
+places_still true size size' inputs x y ms e h k = places_kept size size' inputs x y ms e h k

@@ -1,5 +1,5 @@
 -- Instructions of a block, and then the one that leaves it.
-use Rattle.std.proofs.Common.{◌≡◌, ◌∙◌, ℕ, ◌+◌, ◌<◌, ◌≤◌, ℤ, List, length, map, reverse, take, Option, Some, None, sym, ap, subst, arith}
+use Rattle.std.proofs.Common.{Bool, ◌≡◌, ◌∙◌, ℕ, ◌+◌, ◌<◌, ◌≤◌, ℤ, List, length, map, reverse, take, Option, Some, None, sym, ap, subst, arith}
 use Rattle.std.specs.Prelude.{slice_get}
 use Rattle.rev_num.specs.declared.outcome.Cause.{Cause}
 use Rattle.rev_code.specs.declared.code.Code.{Code}
@@ -130,9 +130,9 @@ module _ (code : Code) (ok : first_fault code ≡ None) (inputs : List ℤ) (sha
 
   module _ (run run' : Run) (seen seen' : ℕ → ℕ) (root root' : ℕ → Option ℕ) (c : State ℕ)
       (st : Stands code inputs share run seen root c) where
-    pub round_less : (old new : Notes) → RoundTo code inputs share c turn.Goes run' seen' root' old new
-        → clock g (state_of code run' seen' root') < clock g (state_of code run seen root)
-    round_less old new r =
+    pub round_less : (noting : Bool) (old new : Notes)
+        → RoundTo noting code inputs share c turn.Goes run' seen' root' old new → clock g (state_of code run' seen' root') < clock g (state_of code run seen root)
+    round_less noting old new r =
         let a = less r.0 r.1 r.3 in
         let b = no_more c r.0 r.2 in
         let x = ap (clock g) (its_state code inputs share run seen root c st) in
@@ -145,10 +145,10 @@ module _ (code : Code) (ok : first_fault code ≡ None) (inputs : List ℤ) (sha
       subst (Stands code inputs share run seen root) (its_state code inputs share run seen root c st) st
 
   pub ends_leg : (run' : Run) (seen' : ℕ → ℕ) (root' : ℕ → Option ℕ) (c0 c : State ℕ)
-      → Steps (setting code inputs share) c0 c → (e : LegEnd) (old new : Notes)
-      → RoundTo code inputs share c (turn.Ends e) run' seen' root' old new
+      → Steps (setting code inputs share) c0 c → (e : LegEnd) (noting : Bool) (old new : Notes)
+      → RoundTo noting code inputs share c (turn.Ends e) run' seen' root' old new
       → LegEnds code inputs share c0 e run' seen' root'
-  ends_leg run' seen' root' c0 c steps (end.Fork n) old new r =
+  ends_leg run' seen' root' c0 c steps (end.Fork n) noting old new r =
       let x = its_state code inputs share run' seen' root' r.1 r.4 in (
         r.3.0,
         record {
@@ -159,7 +159,7 @@ module _ (code : Code) (ok : first_fault code ≡ None) (inputs : List ℤ) (sha
         },
         stands_own run' seen' root' r.1 r.4,
       )
-  ends_leg run' seen' root' c0 c steps (end.Join try on) old new r =
+  ends_leg run' seen' root' c0 c steps (end.Join try on) noting old new r =
       let x = its_state code inputs share run' seen' root' r.1 r.4 in (
         record {
           last = r.0;
@@ -169,14 +169,14 @@ module _ (code : Code) (ok : first_fault code ≡ None) (inputs : List ℤ) (sha
         },
         stands_own run' seen' root' r.1 r.4,
       )
-  ends_leg run' seen' root' c0 c steps end.End old new r = (
+  ends_leg run' seen' root' c0 c steps end.End noting old new r = (
     r.3.0,
     r.1,
     record { last = r.0; steps = steps_on (setting code inputs share) c0 c r.0 steps r.2; comes = r.3.1; is = tt },
     leaves_state code run' seen' root' r.1 r.4,
     r.4,
   )
-  ends_leg run' seen' root' c0 c steps (end.Trap e) old new r = (
+  ends_leg run' seen' root' c0 c steps (end.Trap e) noting old new r = (
     r.1,
     record { last = r.0; steps = steps_on (setting code inputs share) c0 c r.0 steps r.2; comes = r.3; is = tt },
     leaves_state code run' seen' root' r.1 r.4,

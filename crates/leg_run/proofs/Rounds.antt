@@ -1,5 +1,5 @@
 -- One round of the loop, with notes.
-use Rattle.std.proofs.Common.{◌≡◌, ◌≢◌, ◌∙◌, ℕ, ◌≤◌, true, false, ℤ, List, [], ◌++◌, length, Option, Some, refl, sym, ap, subst}
+use Rattle.std.proofs.Common.{◌≡◌, ◌≢◌, ◌∙◌, ℕ, ◌≤◌, Bool, true, false, ℤ, List, [], ◌++◌, length, Option, Some, refl, sym, ap, subst}
 use Rattle.std.proofs.lemmas.List.{append-nil, append_assoc}
 use Rattle.std.specs.Prelude.{slice_get}
 use Rattle.rev_num.specs.declared.outcome.Cause.{Cause}
@@ -26,11 +26,11 @@ use Rattle.block_run.proofs.Turning.{good_event, code_in, same_still, went, here
 use Rattle.block_run.specs.declared.notes.Notes.{Notes}
 use Rattle.block_run.specs.Marks.{plain_marks}
 use Rattle.leg_run.specs.Marks.{marks_of}
-use Rattle.block_run.specs.WhereOn.{HasMarkedIfOn}
+use Rattle.block_run.specs.WhereOn.{HasNoted}
 use Rattle.leg_run.specs.Runs.{AheadNoting, EndsNoting}
 use Rattle.leg_run.proofs.Adding.{marks_more}
 use Rattle.leg_run.proofs.Agreeing.{marks_agree}
-use Rattle.leg_run.proofs.IfOn.{marked_more_if_on}
+use Rattle.leg_run.proofs.IfOn.{more_noted}
 
 pub one_more : (t : Setting ℕ) (c c' c'' : State ℕ) → Steps t c c' → step t c' ≡ goes c'' → Steps t c c''
 one_more t c c' c'' s.none e = s.more e s.none
@@ -96,13 +96,13 @@ module _ (code : Code) (ok : IsAccepted code (notes_of code)) (inputs : List ℤ
       ∙ ap (λ (k : Code). plain_marks k.vars t.inputs root (run_of b ws r) x) (code_in code ok inputs m)
       ∙ ap (λ k. plain_marks code.vars k root (run_of b ws r) x) here.inputs_are
 
-  module _ (old before after : Notes) (c0 : State ℕ) (steps : Steps t c0 c)
-      (noted : HasMarkedIfOn old before (marks_of (reads_of steps)))
-      (marked : HasMarkedIfOn before after (plain_marks code.vars inputs root (run_of b ws r) x)) where
-    both : HasMarkedIfOn old after (marks_of (reads_of steps ++ step_reads t c))
-    both = subst (HasMarkedIfOn old after) (sym (marks_more (reads_of steps) (step_reads t c)))
-        (marked_more_if_on old before after (marks_of (reads_of steps)) (marks_of (step_reads t c)) noted
-        (subst (HasMarkedIfOn before after) (sym marks_here) marked))
+  module _ (noting : Bool) (old before after : Notes) (c0 : State ℕ) (steps : Steps t c0 c)
+      (noted : HasNoted noting old before (marks_of (reads_of steps)))
+      (marked : HasNoted noting before after (plain_marks code.vars inputs root (run_of b ws r) x)) where
+    both : HasNoted noting old after (marks_of (reads_of steps ++ step_reads t c))
+    both = subst (HasNoted noting old after) (sym (marks_more (reads_of steps) (step_reads t c)))
+        (more_noted noting old before after (marks_of (reads_of steps)) (marks_of (step_reads t c)) noted
+        (subst (HasNoted noting before after) (sym marks_here) marked))
 
     module _ (ws' : List ℕ) (r' : Registers) (sees' : ℕ → ℕ) (root' : ℕ → Option ℕ) (size : ℕ)
         (sized : length c.locations ≤ size) (small : PushesInt x) (same : SameElse c0 c) where
@@ -111,7 +111,7 @@ module _ (code : Code) (ok : IsAccepted code (notes_of code)) (inputs : List ℤ
           (Kept size sees sees' root root') (Wrote size sees sees' root root')
 
       pub onward_noting : D stop.Goes → StaysIn b ws ws' r r'
-          → AheadNoting code inputs m b c0 ws' r' sees' root' old after
+          → AheadNoting noting code inputs m b c0 ws' r' sees' root' old after
       onward_noting d stays =
           let g = went code ok inputs fits m b c ws r sees root here is x there ws' r' sees' root' size sized small d
           stays in
@@ -124,12 +124,12 @@ module _ (code : Code) (ok : IsAccepted code (notes_of code)) (inputs : List ℤ
                   small d stays;
               same = same_still c0 c g.next same g.same;
             };
-            noted = subst (λ rs. HasMarkedIfOn old after (marks_of rs)) (sym (reads_one_more t c0 c g.next steps e))
+            noted = subst (λ rs. HasNoted noting old after (marks_of rs)) (sym (reads_one_more t c0 c g.next steps e))
                 both;
           }
 
       trapped_noting : (e : Cause) → D (stop.Traps e)
-          → EndsNoting code inputs m b c0 (stop.Traps e) ws' r' sees' root' old after
+          → EndsNoting noting code inputs m b c0 (stop.Traps e) ws' r' sees' root' old after
       trapped_noting e d =
           let a = subst (Agrees c (act t b c x)) d.0 (agrees small) in
           let h = halted c (act t b c x) has (run_of b ws' r') e a in (
@@ -150,7 +150,7 @@ module _ (code : Code) (ok : IsAccepted code (notes_of code)) (inputs : List ℤ
       quiet_end e = ap (λ rs. reads_of steps ++ rs) (reads_nothing e) ∙ append-nil (reads_of steps)
 
       pub ended_noting : (v : Stop) → D v → StaysIn b ws ws' r r' → v ≢ stop.Goes
-          → EndsNoting code inputs m b c0 v ws' r' sees' root' old after
+          → EndsNoting noting code inputs m b c0 v ws' r' sees' root' old after
       ended_noting stop.Goes d stays other = absurd (other refl)
       ended_noting (stop.Traps e) d stays other = trapped_noting e d
       ended_noting stop.Leaves d stays other = (
@@ -167,7 +167,7 @@ module _ (code : Code) (ok : IsAccepted code (notes_of code)) (inputs : List ℤ
           leaves = leaving code ok inputs fits m b c ws r sees root here is x there ws' r' sees' root' size sized small
               d;
         },
-        subst (λ rs. HasMarkedIfOn old after (marks_of rs))
+        subst (λ rs. HasNoted noting old after (marks_of rs))
             (quiet_end
             (leaving code ok inputs fits m b c ws r sees root here is x there ws' r' sees' root' size sized small d))
             both,

@@ -9,18 +9,17 @@ ghost use Rattle.version_map.specs.Overlay.{under};
 ghost use Rattle.block_run.specs.Area.{count, IsTable};
 ghost use Rattle.block_run.specs.Standing.{Here, IsRoomy, Mode};
 ghost use Rattle.leg_run.specs.Runs.{EndsNoting};
-ghost use Rattle.block_run.specs.WhereOn.{HasPlacesIfOn, is_on};
+ghost use Rattle.block_run.specs.WhereOn.{HasPlacesIfOn};
 
 use block_run::{Act, Memory, Notes, Registers, Stop, Variable, act, fetch};
 use rev_code::{Code, CodeBlock};
 use version_map::Snapshot;
 
-/// Does as `run_block` does, and notes what the instructions read where notes are on. `ON` says
-/// whether they are, so that the compiler makes a loop of each case, and where they are off nothing
-/// looks at them. It is not made a part of its caller, whose own variables would take the registers
-/// of the processor.
+/// Does as `run_block` does, and with `NOTING` notes what the instructions read where notes are on.
+/// So the compiler makes a loop of each case, and in that without nothing looks at the notes. It is
+/// not made a part of its caller, whose own variables would take the registers of the processor.
 #[inline(never)]
-pub fn run_leg_block<P: Snapshot, const ON: bool>(
+pub fn run_leg_block<P: Snapshot, const NOTING: bool>(
     code: &Code,
     table: &[Variable],
     inputs: &[i64],
@@ -41,11 +40,10 @@ pub fn run_leg_block<P: Snapshot, const ON: bool>(
         (under memory.old.delta (P.base memory.old.snapshot)) (at memory.old.first.roots) }
     requires room { IsRoomy code.now b.now registers.old (length words.old) }
     requires places { HasPlacesIfOn (count code.now.vars) inputs.now notes.old }
-    requires on { is_on notes.old ≡ ON }
     ensures ends { (m : Mode) (c : State ℕ)
         → Here code.now inputs.now m b.now c words.old registers.old
         (under memory.old.delta (P.base memory.old.snapshot)) (at memory.old.first.roots)
-        → EndsNoting code.now inputs.now m b.now c result words.new registers.new
+        → EndsNoting NOTING code.now inputs.now m b.now c result words.new registers.new
         (under memory.new.delta (P.base memory.new.snapshot)) (at memory.new.first.roots)
         notes.old notes.new }
     ensures block { registers.new.block ≡ registers.old.block }
@@ -65,7 +63,7 @@ pub fn run_leg_block<P: Snapshot, const ON: bool>(
     let instrs = b.instrs.as_slice();
     let mut x = fetch(instrs, r.at);
     loop {
-        match act::<P, ON>(code, table, inputs, b, memory, words, &mut r, x, notes) {
+        match act::<P, NOTING>(code, table, inputs, b, memory, words, &mut r, x, notes) {
             Act::Goes => x = fetch(instrs, r.at),
             last => {
                 registers.at = r.at;

@@ -8,7 +8,7 @@ ghost use Rattle.version_map.specs.Overlay.{under};
 ghost use Rattle.block_run.specs.Area.{count};
 ghost use Rattle.block_run.specs.Standing.{leaves_block};
 ghost use Rattle.leg_run.specs.Ends.{LegEnds, TurnsTo};
-ghost use Rattle.leg_run.specs.Noting.{HasNotedLeg, HasPlacesIfOn, RoundTo, is_on};
+ghost use Rattle.leg_run.specs.Noting.{HasNotedLeg, HasPlacesIfOn, RoundTo};
 ghost use Rattle.leg_run.specs.Standing.{IsStanding, Stands, state_of};
 
 use crate::apply_fun::apply;
@@ -70,9 +70,9 @@ fn turn_at<P: Snapshot>(
     }
 }
 
-/// Does instructions of a block, and then the one that leaves it, or ends the leg there; with notes
-/// of what they read where notes are on.
-fn go_on<P: Snapshot, const ON: bool>(
+/// Does instructions of a block, and then the one that leaves it, or ends the leg there; with `NOTING`
+/// and notes that are on it notes what they read.
+fn go_on<P: Snapshot, const NOTING: bool>(
     setting: &CodeSetting,
     memory: &mut Memory<P>,
     run: &mut Run,
@@ -84,11 +84,10 @@ fn go_on<P: Snapshot, const ON: bool>(
         (under memory.old.delta (P.base memory.old.snapshot)) (at memory.old.first.roots) c }
     requires places { HasPlacesIfOn (count setting.now.code.vars) setting.now.inputs.items
         notes.old }
-    requires on { is_on notes.old ≡ ON }
     ensures rounds { IfOk result (λ t. (c : State ℕ)
         → Stands setting.now.code setting.now.inputs.items setting.now.share run.old
         (under memory.old.delta (P.base memory.old.snapshot)) (at memory.old.first.roots) c
-        → RoundTo setting.now.code setting.now.inputs.items setting.now.share c t run.new
+        → RoundTo NOTING setting.now.code setting.now.inputs.items setting.now.share c t run.new
         (under memory.new.delta (P.base memory.new.snapshot)) (at memory.new.first.roots)
         notes.old notes.new) }
     ensures size { P.size memory.new.snapshot ≡ P.size memory.old.snapshot }
@@ -98,7 +97,7 @@ fn go_on<P: Snapshot, const ON: bool>(
     let table = setting.table.as_slice();
     let inputs = setting.inputs.as_slice();
     let words = run.words.as_mut_slice();
-    match run_leg_block::<P, ON>(
+    match run_leg_block::<P, NOTING>(
         &setting.code,
         table,
         inputs,
@@ -113,11 +112,11 @@ fn go_on<P: Snapshot, const ON: bool>(
     }
 }
 
-/// Does the instructions of a leg up to its event, and notes what they read where notes are on, which
-/// `ON` says: so the compiler makes a loop of each case, and that of a leg without notes looks at
-/// none. The error is want of memory, after which nothing is said of where the revision stands, and
-/// nothing of the notes.
-pub fn run<P: Snapshot, const ON: bool>(
+/// Does the instructions of a leg up to its event. With `NOTING` it notes what they read where notes
+/// are on, and without it notes nothing: so the compiler makes a loop of each case, and that of a leg
+/// without notes looks at none. The error is want of memory, after which nothing is said of where the
+/// revision stands, and nothing of the notes.
+pub fn run<P: Snapshot, const NOTING: bool>(
     setting: &CodeSetting,
     revision: &mut RunningRevision<P>,
     notes: &mut Notes,
@@ -128,7 +127,6 @@ pub fn run<P: Snapshot, const ON: bool>(
         (at revision.old.memory.first.roots) }
     requires places { HasPlacesIfOn (count setting.now.code.vars) setting.now.inputs.items
         notes.old }
-    requires on { is_on notes.old ≡ ON }
     ensures leg { IfOk result (λ e.
         LegEnds setting.now.code setting.now.inputs.items setting.now.share
         (state_of setting.now.code revision.old.run
@@ -137,7 +135,7 @@ pub fn run<P: Snapshot, const ON: bool>(
         (under revision.new.memory.delta (P.base revision.new.memory.snapshot))
         (at revision.new.memory.first.roots)) }
     ensures noted { IfOk result (λ _.
-        HasNotedLeg setting.now.code setting.now.inputs.items setting.now.share
+        HasNotedLeg NOTING setting.now.code setting.now.inputs.items setting.now.share
         (state_of setting.now.code revision.old.run
         (under revision.old.memory.delta (P.base revision.old.memory.snapshot))
         (at revision.old.memory.first.roots)) notes.old notes.new) }
@@ -145,7 +143,7 @@ pub fn run<P: Snapshot, const ON: bool>(
     ensures group { P.group revision.new.memory.snapshot ≡ P.group revision.old.memory.snapshot }
 {
     loop {
-        match go_on::<P, ON>(setting, &mut revision.memory, &mut revision.run, notes)? {
+        match go_on::<P, NOTING>(setting, &mut revision.memory, &mut revision.run, notes)? {
             BlockExit::Goes => {},
             BlockExit::Ends(end) => return Ok(end),
         }

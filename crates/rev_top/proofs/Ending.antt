@@ -53,7 +53,7 @@ pub report_made : {X : Type 0} (e : Stop) (f : Refusal) → e ≡ stops.Refused 
 report_made e f is (Ok x) h = (f, is, h)
 report_made e f is (Err x) h = tt
 
-module _ (e : Stop) (out out' err err' : Stream) (status : ℕ) where
+module _ (e : Stop) {out out' err err' : Stream} {status : ℕ} where
   pub refusal_delivered : (f : Refusal) → e ≡ stops.Refused f → (o : Output) → o ≡ shown (Err f)
       → Delivered o out out' err err' status
       → DeliversRefusal e out out' err err' status

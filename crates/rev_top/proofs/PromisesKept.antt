@@ -184,11 +184,11 @@ module _ (texts : List (List ℕ)) (source source' out out' err err' : Stream) (
         on_err = inr d.message;
       }
 
-pub keeps : (texts : List (List ℕ)) (source source' out out' err err' : Stream) (ran : Option Ran) (status : ℕ)
+pub keeps : (texts : List (List ℕ)) {source source' out out' err err' : Stream} {ran : Option Ran} {status : ℕ}
     → Happened (reading texts) source source' out out' err err' ran status
     → Takes (reads (reading texts)) source source'
     → Keeps (reading texts) source source' out out' err err' ran status
-keeps texts source source' out out' err err' ran status h takes =
+keeps texts {source} {source'} {out} {out'} {err} {err'} {ran} {status} h takes =
     let w : Option Words = reading texts in
     let cause = causes w source source' out out' err err' ran status h in
     let untouched : reads w ≡ None → source' ≡ source = unread_of (reads w) source source' takes in

@@ -24,7 +24,7 @@ use Rattle.mode_reports.specs.Answer.{Answer, Answers, Fits, Given, Orders, Runs
 use Rattle.rev_top.specs.Delivery.{Delivered, Wrote, all_written, err_failed, no_room_at_err, no_room_at_out, out_failed}
 use Rattle.rev_top.specs.Promises.{IsRefused}
 use Rattle.rev_top.specs.Making.{IsMade, RunsBy, RunsText, Told, said, told}
-use Rattle.rev_top.specs.RanLaws.{IsDelivered, IsRunStatus, IsReported, IsRunOfCall, RanLaw, Tells}
+use Rattle.rev_top.specs.RanLaws.{IsDelivered, IsRunStatus, IsReported, IsRunOfCall, RanLaw, RanSays, Tells}
 use Rattle.rev_top.specs.Rans.{Happened, Holds, Leaves, Reports, answered, goes_by_threads, no_report, of_load, of_order, of_run}
 use Rattle.mode_reports.specs.Stages.{Onward, Then}
 use Rattle.mode_reports.specs.Stops.{Meets}
@@ -147,10 +147,10 @@ refusal_made words old new e h f is o same =
 -- ---- what happened
 
 pub happened :
-    (words : Option Words) (source source' out out' err err' : Stream) (ran : Option Ran) (status : ℕ) (o : Output)
+    {words : Option Words} {source source' out out' err err' : Stream} {ran : Option Ran} {status : ℕ} {o : Output}
     → IsMade words source source' ran o → Delivered o out out' err err' status
     → Happened words source source' out out' err err' ran status
-happened words source source' out out' err err' ran status o m d =
+happened {words} {source} {source'} {out} {out'} {err} {err'} {ran} {status} {o} m d =
     answered m.0 m.1 m.2 (subst (λ (x : Output). Delivered x out out' err err' status) m.3 d)
 
 -- ---- statuses
@@ -395,3 +395,8 @@ ran_says words source source' out out' err err' ran status e = record {
   run = run_of source source' out out' err err' ran status words e;
   behind_bytes = behind_of source source' out out' err err' ran status words e;
 }
+
+pub ran_of : {words : Option Words} {source source' out out' err err' : Stream} {ran : Option Ran} {status : ℕ}
+    → Happened words source source' out out' err err' ran status → RanSays words source out out' err err' ran status
+ran_of {words} {source} {source'} {out} {out'} {err} {err'} {ran} {status} h =
+    ran_says words source source' out out' err err' ran status h

@@ -98,7 +98,7 @@ module _ (w : Words) (mode : w.mode ≡ modes.Stream) (source source' : Stream) 
 
   -- ---- what happened
 
-  module _ (out out' err err' : Stream) (status : ℕ) where
+  module _ {out out' err err' : Stream} {status : ℕ} where
     pub streamed : (p : ProgramTree) → Reads (Ok p) → DeliversOutcome w p out out' err err' status
         → Happened (Some w) source source' out out' err err' None status
     streamed p h d =
@@ -114,7 +114,7 @@ module _ (w : Words) (mode : w.mode ≡ modes.Stream) (source source' : Stream) 
 
 -- ---- words without a reading
 
-module _ (source out out' err err' : Stream) (status : ℕ) where
+module _ {source out out' err err' : Stream} {status : ℕ} where
   by_words : (fault : WordsFault) (words : Option Words) → Gives (λ (w : Words). w) (Err fault) words
       → DeliversRefusal (stop_of_words fault) out out' err err' status
       → Happened words source source out out' err err' None status

@@ -1,5 +1,5 @@
 -- Joiners behind their joins.
---   joiner_wrote   what the joiner's memory has as written is what the joiner wrote
+--   joiner_wrote, its_writes   what the joiner's memory has as written is what the joiner wrote
 --   after_join     the revision stands for the joiner behind its join
 --   mains_joined   a joiner's words stand for its view where the joinee wrote
 --   new_words      new words stand for those of the definition
@@ -327,11 +327,18 @@ is_done p f e h = by p (subst (IsPhase p) e h)
 
 -- ---- a TryJoin of a revision that has trapped
 
-pub dropped_at : (g : CodeRun) (run run' : Run) (delta : Delta) (base : ℕ → ℕ) (first : Delta) (try : Bool)
-    (on : ℕ) (c : State ℕ)
+pub its_writes : (g : CodeRun) {run : Run} {delta : Delta} {base : ℕ → ℕ} {first : Delta} {try : Bool} {on : ℕ}
+    (c : State ℕ) → IsAtJoin g run delta base first try on c → {size : ℕ} → size ≡ count g.code.vars
+    → AreWritten (location_kinds g.code.vars) (written_from 0 c.locations)
+    (written_below (overlay.under delta base) (at first) size)
+its_writes g {run} {delta} {base} {first} {try} {on} c h {size} sized =
+    joiner_wrote g run delta base first try on c h size sized
+
+pub dropped_at : (g : CodeRun) {run run' : Run} {delta : Delta} {base : ℕ → ℕ} {first : Delta} {try : Bool} {on : ℕ}
+    (c : State ℕ)
     → IsAtJoin g run delta base first try on c → IsReady run → try ≡ true → IsTold 0 run run'
     → IsAt g run' delta base first (past_join c true false on)
-dropped_at g run run' delta base first try on c h ready is k =
+dropped_at g {run} {run'} {delta} {base} {first} {try} {on} c h ready is k =
     let s = h.stands.stands in
     let a : IsAfter run' run' c.fuel c.text = record {
       block = refl;

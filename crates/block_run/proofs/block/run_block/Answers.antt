@@ -10,10 +10,7 @@ use Rattle.block_run.specs.declared.registers.Stop.{Stop}
 use Rattle.block_run.specs.declared.registers.Stop.TheVariants as stop
 use Rattle.block_run.specs.Standing.{Ends, Mode}
 use Rattle.block_run.specs.Stops.{stop_of}
-use Rattle.block_run.specs.declared.notes.Notes.{Notes}
-use Rattle.block_run.specs.declared.notes.Notes.TheVariants as notes
-use Rattle.block_run.specs.Marks.{Mark}
-use Rattle.block_run.specs.WhereOn.{HasMarkedIfOn, HasPlacesIfOn}
+use Rattle.block_run.specs.WhereOn.{HasPlacesIfOn}
 use Rattle.block_run.proofs.Turning.{inside_now, found_operand, placed, room, onward, smaller, ended, all_same, below_still, quiet, kept_on}
 use Rattle.block_run.proofs.Locations.{all_kept}
 use Rattle.block_run.proofs.Loops.{few_locations, not_goes, roomy_still, same_registers}
@@ -24,12 +21,6 @@ stopped : (code : Code) (inputs : List ℤ) (m : Mode) (b : CodeBlock) (c : Stat
     → s ≡ s' → r ≡ r' → Ends code inputs m b c s ws r seen root → Ends code inputs m b c s' ws r' seen root
 stopped code inputs m b c s s' ws r r' seen root e f h =
     subst (λ k. Ends code inputs m b c k ws r' seen root) e (subst (λ q. Ends code inputs m b c s ws q seen root) f h)
-
--- notes that are off need no places, and stay off
-stay_off : (x y : Notes) (ms : List Mark) → x ≡ notes.Off → HasMarkedIfOn x y ms → y ≡ notes.Off
-stay_off notes.Off notes.Off ms e h = refl
-stay_off notes.Off (notes.On b) ms e h = absurd h
-stay_off (notes.On a) y ms e h = absurd (let z : notes.On a ≡ notes.Off = e in cc)
 
 pub act-requires-clause-places : goal.act-requires-clause-places
 act-requires-clause-places g c =
@@ -132,7 +123,7 @@ loop-x-preserved g c =
     record {
       instrs = v.instrs;
       next = c.fetch-x-in-Goes.ensures;
-      notes = stay_off c.loop-x.notes c.act.new.notes _ v.notes e.marked;
+      notes = e.marked ∙ v.notes;
       registers = v.registers;
       words = c.act.auto.words ∙ v.words;
       ahead = λ m c0 here.

@@ -1,5 +1,5 @@
 -- Answers of run_leg_block: each act is a step of the machine with what it reads, so the way grows act by act.
-use Rattle.std.proofs.Common.{◌≡◌, ◌∙◌, ℕ, List, Option, ◌<◌, ◌^◌, length, sym, ap, refl, arith, subst}
+use Rattle.std.proofs.Common.{Bool, ◌≡◌, ◌∙◌, ℕ, List, Option, ◌<◌, ◌^◌, length, sym, ap, refl, arith, subst}
 use Rattle.std.specs.Prelude.{ℤ, slice_get}
 use Rattle.rev_code.specs.Step as step
 use Rattle.rev_code.specs.declared.code.Code.{Code}
@@ -11,19 +11,19 @@ use Rattle.block_run.specs.Standing.{Mode}
 use Rattle.block_run.specs.Stops.{stop_of}
 use Rattle.block_run.specs.declared.notes.Notes.{Notes}
 use Rattle.leg_run.specs.Runs.{EndsNoting}
-use Rattle.leg_run.proofs.IfOn.{none_marked_if_on, on_still, places_still}
+use Rattle.leg_run.proofs.IfOn.{none_noted, places_still}
 use Rattle.leg_run.proofs.Rounds.{onward_noting, ended_noting}
 use Rattle.block_run.proofs.Loops.{few_locations, not_goes, roomy_still, same_registers}
 use Rattle.block_run.proofs.Turning.{inside_now, found_operand, placed, room, smaller, all_same, below_still}
 use Rattle.leg_run.proofs.block.run_leg_block.Goals as goal
 
 stopped : (code : Code) (inputs : List ℤ) (m : Mode) (b : CodeBlock) (c : State ℕ) (s s' : Stop) (ws : List ℕ)
-    (r r' : Registers) (seen : ℕ → ℕ) (root : ℕ → Option ℕ) (old new : Notes)
-    → s ≡ s' → r ≡ r' → EndsNoting code inputs m b c s ws r seen root old new
-    → EndsNoting code inputs m b c s' ws r' seen root old new
-stopped code inputs m b c s s' ws r r' seen root old new e f h =
-    subst (λ k. EndsNoting code inputs m b c k ws r' seen root old new) e
-    (subst (λ q. EndsNoting code inputs m b c s ws q seen root old new) f h)
+    (r r' : Registers) (seen : ℕ → ℕ) (root : ℕ → Option ℕ) (noting : Bool) (old new : Notes)
+    → s ≡ s' → r ≡ r' → EndsNoting noting code inputs m b c s ws r seen root old new
+    → EndsNoting noting code inputs m b c s' ws r' seen root old new
+stopped code inputs m b c s s' ws r r' seen root noting old new e f h =
+    subst (λ k. EndsNoting noting code inputs m b c k ws r' seen root old new) e
+    (subst (λ q. EndsNoting noting code inputs m b c s ws q seen root old new) f h)
 
 pub loop-x-init : goal.loop-x-init
 loop-x-init g c = record {
@@ -33,7 +33,7 @@ loop-x-init g c = record {
   words = refl;
   ahead = λ m c0 here. record {
     ahead = record { now = c0; steps = step.none; here = here; same = all_same c0 };
-    noted = none_marked_if_on c.args.notes.now;
+    noted = none_noted _ c.args.notes.now;
   };
   block = refl;
   base = refl;
@@ -59,7 +59,7 @@ fetch-x-requires-in-Goes g c =
     let e = c.in-Goes.ensures in
     let d =
     (onward_noting c.args.code.now c.requires.accepted c.args.inputs.now c.requires.inputs q.0 c.args.b.now a.now
-    c.loop-x.words c.loop-x.r _ _ a.here is _ at c.args.notes.now c.loop-x.notes
+    c.loop-x.words c.loop-x.r _ _ a.here is _ at _ c.args.notes.now c.loop-x.notes
     c.act.new.notes q.1 a.steps n.noted e.marked c.act.new.words c.act.new.r _ _ _
     (few_locations _ _ _ _ v.size c.requires.size a.here.many) e.int a.same e.does e.stays).ahead in
     inside_now c.args.code.now c.requires.accepted c.args.inputs.now q.0 c.args.b.now d.now c.act.new.words
@@ -131,7 +131,7 @@ loop-x-preserved g c =
           let n = v.ahead m c0 here in
           let a = n.ahead in
           onward_noting c.args.code.now c.requires.accepted c.args.inputs.now c.requires.inputs m c.args.b.now a.now
-          c.loop-x.words c.loop-x.r _ _ a.here is _ at c.args.notes.now c.loop-x.notes c.act.new.notes
+          c.loop-x.words c.loop-x.r _ _ a.here is _ at _ c.args.notes.now c.loop-x.notes c.act.new.notes
           c0 a.steps n.noted e.marked c.act.new.words c.act.new.r _ _ _
           (few_locations _ _ _ _ v.size c.requires.size a.here.many) e.int a.same e.does e.stays;
       block = e.stays.block ∙ v.block;
@@ -145,13 +145,8 @@ pub act-requires-clause-places : goal.act-requires-clause-places
 act-requires-clause-places g c =
     let q = c.requires.stands in
     let v = c.loop-x.invariant in
-    places_still _ _ c.args.inputs.now c.args.notes.now c.loop-x.notes _ (v.size ∙ c.requires.size)
+    places_still _ _ _ c.args.inputs.now c.args.notes.now c.loop-x.notes _ (v.size ∙ c.requires.size)
     (v.ahead q.0 q.1 q.2).noted c.requires.places
-
-pub act-requires-clause-on : goal.act-requires-clause-on
-act-requires-clause-on g c =
-    let q = c.requires.stands in
-    on_still c.args.notes.now c.loop-x.notes _ (c.loop-x.invariant.ahead q.0 q.1 q.2).noted ∙ c.requires.on
 
 pub returns-in_default : goal.returns-in_default
 returns-in_default g c =
@@ -169,9 +164,9 @@ returns-in_default g c =
           let n = v.ahead m c0 here in
           let a = n.ahead in
           stopped c.args.code.now c.args.inputs.now m c.args.b.now c0 _ _ c.act.new.words _ _ _ _
-          c.args.notes.now c.act.new.notes (sym c.stop.ensures) same
+          _ c.args.notes.now c.act.new.notes (sym c.stop.ensures) same
           (ended_noting c.args.code.now c.requires.accepted c.args.inputs.now c.requires.inputs m c.args.b.now a.now
-          c.loop-x.words c.loop-x.r _ _ a.here is _ at c.args.notes.now c.loop-x.notes c.act.new.notes
+          c.loop-x.words c.loop-x.r _ _ a.here is _ at _ c.args.notes.now c.loop-x.notes c.act.new.notes
           c0 a.steps n.noted e.marked c.act.new.words c.act.new.r _ _ _
           (few_locations _ _ _ _ v.size c.requires.size a.here.many) e.int a.same (stop_of c.act.result) e.does e.stays
           (not_goes c.act.result c.in_default.not-Goes));

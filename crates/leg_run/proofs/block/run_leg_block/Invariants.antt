@@ -1,6 +1,8 @@
 -- Loops of run_leg_block: from each state that stood at first noted steps lead to one that stands now.
 use Rattle.std.proofs.Common.{◌≡◌, ℕ, length, take, Some}
 use Rattle.std.specs.Prelude.{slice_get}
+use mathlib.Core.Bool.{not}
+use lib.Dec.{eqb}
 use Rattle.rev_code.specs.State.{State}
 use Rattle.version_map.specs.Deltas.{at}
 use Rattle.version_map.specs.Overlay.{under}
@@ -17,7 +19,8 @@ invariant-loop-x g l = record {
   words : length l.words ≡ length l.initial.words;
   ahead : (m : Mode) (c : State ℕ) → Here l.code l.inputs m l.b c l.initial.words l.initial.registers
       (under l.initial.memory.delta (g.P.Snapshot.base l.initial.memory.snapshot)) (at l.initial.memory.first.roots)
-      → AheadNoting l.code l.inputs m l.b c l.words l.r (under l.memory.delta (g.P.Snapshot.base l.memory.snapshot))
+      → AheadNoting (not (eqb g.row.NOTING 0)) l.code l.inputs m l.b c l.words l.r
+      (under l.memory.delta (g.P.Snapshot.base l.memory.snapshot))
       (at l.memory.first.roots) l.initial.notes l.notes;
   block : l.r.block ≡ l.initial.registers.block;
   base : l.r.base ≡ l.initial.registers.base;

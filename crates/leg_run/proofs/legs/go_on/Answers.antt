@@ -37,11 +37,11 @@ run_leg_block-requires-clause-places g c =
 pub turn_at-requires : goal.turn_at-requires
 turn_at-requires g c =
     let q = c.requires.stands in
-    let l = leaving_noting c.args.setting.now.code c.args.setting.now.inputs.items c.args.setting.now.share
+    let l = leaving_noting _ c.args.setting.now.code c.args.setting.now.inputs.items c.args.setting.now.share
     c.block_at-b.result.now q.0 c.run_leg_block.result c.run_leg_block.new.words c.run_leg_block.new.registers
     (under c.run_leg_block.new.memory.delta (g.P.Snapshot.base c.run_leg_block.new.memory.snapshot))
     (at c.run_leg_block.new.memory.first.roots) c.args.notes.now c.run_leg_block.new.notes
-    (ends_noting_for c.args.setting.now.code c.args.setting.now.inputs.items c.as_slice-inputs.result.now
+    (ends_noting_for _ c.args.setting.now.code c.args.setting.now.inputs.items c.as_slice-inputs.result.now
     c.args.setting.now.share c.block_at-b.result.now q.0 c.run_leg_block.result c.run_leg_block.new.words
     c.run_leg_block.new.registers
     (under c.run_leg_block.new.memory.delta (g.P.Snapshot.base c.run_leg_block.new.memory.snapshot))
@@ -83,14 +83,14 @@ turn_at-requires g c =
 
 pub returns-in-Traps-clause-rounds : goal.returns-in-Traps-clause-rounds
 returns-in-Traps-clause-rounds g c = λ s st.
-    trapped_noting c.args.setting.now.code c.args.setting.now.faultless c.args.setting.now.inputs.items
+    trapped_noting _ c.args.setting.now.code c.args.setting.now.faultless c.args.setting.now.inputs.items
     c.args.setting.now.share c.args.run.now
     (under c.args.memory.now.delta (g.P.Snapshot.base c.args.memory.now.snapshot)) (at c.args.memory.now.first.roots) s
     st c.block_at-b.result.now c.block_at-b.ensures c.in-Traps.cause c.run_leg_block.new.words
     c.run_leg_block.new.registers
     (under c.run_leg_block.new.memory.delta (g.P.Snapshot.base c.run_leg_block.new.memory.snapshot))
     (at c.run_leg_block.new.memory.first.roots) c.args.notes.now c.run_leg_block.new.notes
-    (ends_noting_for c.args.setting.now.code c.args.setting.now.inputs.items c.as_slice-inputs.result.now
+    (ends_noting_for _ c.args.setting.now.code c.args.setting.now.inputs.items c.as_slice-inputs.result.now
     c.args.setting.now.share c.block_at-b.result.now s (stop.Traps c.in-Traps.cause) c.run_leg_block.new.words
     c.run_leg_block.new.registers
     (under c.run_leg_block.new.memory.delta (g.P.Snapshot.base c.run_leg_block.new.memory.snapshot))
@@ -114,12 +114,12 @@ returns-in_default g c =
     let k = c.args.run.now.words.ok.0 in
     record {
       rounds = IfOk-weaker c.turn_at.result _ _ (λ t turns s st.
-          let l = leaving_noting c.args.setting.now.code c.args.setting.now.inputs.items c.args.setting.now.share
+          let l = leaving_noting _ c.args.setting.now.code c.args.setting.now.inputs.items c.args.setting.now.share
           c.block_at-b.result.now s c.run_leg_block.result c.run_leg_block.new.words
           c.run_leg_block.new.registers
           (under c.run_leg_block.new.memory.delta (g.P.Snapshot.base c.run_leg_block.new.memory.snapshot))
           (at c.run_leg_block.new.memory.first.roots) c.args.notes.now c.run_leg_block.new.notes
-          (ends_noting_for c.args.setting.now.code c.args.setting.now.inputs.items c.as_slice-inputs.result.now
+          (ends_noting_for _ c.args.setting.now.code c.args.setting.now.inputs.items c.as_slice-inputs.result.now
           c.args.setting.now.share c.block_at-b.result.now s c.run_leg_block.result c.run_leg_block.new.words
           c.run_leg_block.new.registers
           (under c.run_leg_block.new.memory.delta (g.P.Snapshot.base c.run_leg_block.new.memory.snapshot))
@@ -135,7 +135,7 @@ returns-in_default g c =
           (under c.args.memory.now.delta (g.P.Snapshot.base c.args.memory.now.snapshot))
           (at c.args.memory.now.first.roots) s st c.block_at-b.result.now c.block_at-b.ensures))))
           c.in_default.not-Traps in
-          turned_noting c.args.setting.now.code c.args.setting.now.faultless c.args.setting.now.inputs.items
+          turned_noting _ c.args.setting.now.code c.args.setting.now.faultless c.args.setting.now.inputs.items
           c.args.setting.now.share c.block_at-b.result.now s c.run_leg_block.new.words
           c.run_leg_block.new.registers
           (under c.run_leg_block.new.memory.delta (g.P.Snapshot.base c.run_leg_block.new.memory.snapshot))

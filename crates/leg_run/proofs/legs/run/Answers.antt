@@ -1,11 +1,13 @@
 -- Answers of run: each noted round leads on with a smaller clock, so all reads of the leg are noted.
 use Rattle.std.proofs.Common.{◌∙◌, refl, subst}
+use mathlib.Core.Bool.{not}
+use lib.Dec.{eqb}
 use Rattle.rev_code.specs.Step as s
 use Rattle.version_map.specs.Deltas.{at}
 use Rattle.version_map.specs.Overlay.{under}
 use Rattle.block_run.specs.Area.{count}
 use Rattle.leg_run.specs.Runs.{reads_of}
-use Rattle.leg_run.proofs.IfOn.{none_marked_if_on, on_still, places_still}
+use Rattle.leg_run.proofs.IfOn.{none_noted, places_still}
 use Rattle.leg_run.specs.Noting.{RoundTo, marks_of}
 use Rattle.leg_run.specs.Standing.{state_of}
 use Rattle.leg_run.proofs.NotedLegs.{leg_noted, round_on_noting}
@@ -20,7 +22,7 @@ loop-end-init g c = record {
         (at c.args.revision.now.memory.first.roots)),
     s.none,
     c.requires.stands,
-    none_marked_if_on c.args.notes.now,
+    none_noted _ c.args.notes.now,
   );
   size = refl;
   group = refl;
@@ -30,7 +32,7 @@ pub loop-end-preserved : goal.loop-end-preserved
 loop-end-preserved g c =
     let a = c.loop-end.invariant.ahead in
     record {
-      ahead = round_on_noting c.args.setting.now.code c.args.setting.now.faultless c.args.setting.now.inputs.items
+      ahead = round_on_noting _ c.args.setting.now.code c.args.setting.now.faultless c.args.setting.now.inputs.items
           c.args.setting.now.share (state_of c.args.setting.now.code c.args.revision.now.run
           (under c.args.revision.now.memory.delta (g.P.Snapshot.base c.args.revision.now.memory.snapshot))
           (at c.args.revision.now.memory.first.roots))
@@ -40,7 +42,7 @@ loop-end-preserved g c =
           (at c.loop-end.revision.memory.first.roots) (at c.go_on.new.memory.first.roots) c.args.notes.now
           c.loop-end.notes c.go_on.new.notes a
           (subst (λ t.
-          RoundTo c.args.setting.now.code c.args.setting.now.inputs.items c.args.setting.now.share a.0 t
+          RoundTo (not (eqb g.row.NOTING 0)) c.args.setting.now.code c.args.setting.now.inputs.items c.args.setting.now.share a.0 t
           c.go_on.new.run
           (under c.go_on.new.memory.delta (g.P.Snapshot.base c.go_on.new.memory.snapshot))
           (at c.go_on.new.memory.first.roots) c.loop-end.notes c.go_on.new.notes)
@@ -57,8 +59,8 @@ loop-end-smaller g c =
     (under c.loop-end.revision.memory.delta (g.P.Snapshot.base c.loop-end.revision.memory.snapshot))
     (under c.go_on.new.memory.delta (g.P.Snapshot.base c.go_on.new.memory.snapshot))
     (at c.loop-end.revision.memory.first.roots) (at c.go_on.new.memory.first.roots) a.0 a.2
-    c.loop-end.notes c.go_on.new.notes (subst (λ t.
-    RoundTo c.args.setting.now.code c.args.setting.now.inputs.items c.args.setting.now.share a.0 t
+    _ c.loop-end.notes c.go_on.new.notes (subst (λ t.
+    RoundTo (not (eqb g.row.NOTING 0)) c.args.setting.now.code c.args.setting.now.inputs.items c.args.setting.now.share a.0 t
     c.go_on.new.run
     (under c.go_on.new.memory.delta (g.P.Snapshot.base c.go_on.new.memory.snapshot))
     (at c.go_on.new.memory.first.roots) c.loop-end.notes c.go_on.new.notes)
@@ -70,14 +72,9 @@ go_on-requires-clause-stands g c = let a = c.loop-end.invariant.ahead in (a.0, a
 pub go_on-requires-clause-places : goal.go_on-requires-clause-places
 go_on-requires-clause-places g c =
     let a = c.loop-end.invariant.ahead in
-    places_still (count c.args.setting.now.code.vars) (count c.args.setting.now.code.vars)
+    places_still _ (count c.args.setting.now.code.vars) (count c.args.setting.now.code.vars)
     c.args.setting.now.inputs.items
     c.args.notes.now c.loop-end.notes (marks_of (reads_of a.1)) refl a.3 c.requires.places
-
-pub go_on-requires-clause-on : goal.go_on-requires-clause-on
-go_on-requires-clause-on g c =
-    let a = c.loop-end.invariant.ahead in
-    on_still c.args.notes.now c.loop-end.notes (marks_of (reads_of a.1)) a.3 ∙ c.requires.on
 
 pub returns-in-Ends-clause-leg : goal.returns-in-Ends-clause-leg
 returns-in-Ends-clause-leg g c =
@@ -90,8 +87,8 @@ returns-in-Ends-clause-leg g c =
     (under c.args.revision.now.memory.delta (g.P.Snapshot.base c.args.revision.now.memory.snapshot))
     (at c.args.revision.now.memory.first.roots))
     a.0 a.1 c.in-Ends.end
-    c.loop-end.notes c.go_on.new.notes (subst (λ t.
-    RoundTo c.args.setting.now.code c.args.setting.now.inputs.items c.args.setting.now.share a.0 t
+    _ c.loop-end.notes c.go_on.new.notes (subst (λ t.
+    RoundTo (not (eqb g.row.NOTING 0)) c.args.setting.now.code c.args.setting.now.inputs.items c.args.setting.now.share a.0 t
     c.go_on.new.run
     (under c.go_on.new.memory.delta (g.P.Snapshot.base c.go_on.new.memory.snapshot))
     (at c.go_on.new.memory.first.roots) c.loop-end.notes c.go_on.new.notes)
@@ -100,7 +97,7 @@ returns-in-Ends-clause-leg g c =
 pub returns-in-Ends-clause-noted : goal.returns-in-Ends-clause-noted
 returns-in-Ends-clause-noted g c =
     let a = c.loop-end.invariant.ahead in
-    leg_noted c.args.setting.now.code c.args.setting.now.faultless c.args.setting.now.inputs.items
+    leg_noted _ c.args.setting.now.code c.args.setting.now.faultless c.args.setting.now.inputs.items
     c.args.setting.now.share (state_of c.args.setting.now.code c.args.revision.now.run
     (under c.args.revision.now.memory.delta (g.P.Snapshot.base c.args.revision.now.memory.snapshot))
     (at c.args.revision.now.memory.first.roots))
@@ -110,7 +107,7 @@ returns-in-Ends-clause-noted g c =
     (at c.loop-end.revision.memory.first.roots) (at c.go_on.new.memory.first.roots) c.args.notes.now
     c.loop-end.notes c.go_on.new.notes a c.in-Ends.end
     (subst (λ t.
-    RoundTo c.args.setting.now.code c.args.setting.now.inputs.items c.args.setting.now.share a.0 t
+    RoundTo (not (eqb g.row.NOTING 0)) c.args.setting.now.code c.args.setting.now.inputs.items c.args.setting.now.share a.0 t
     c.go_on.new.run
     (under c.go_on.new.memory.delta (g.P.Snapshot.base c.go_on.new.memory.snapshot))
     (at c.go_on.new.memory.first.roots) c.loop-end.notes c.go_on.new.notes)

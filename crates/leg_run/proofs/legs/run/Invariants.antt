@@ -1,5 +1,7 @@
 -- Loops of run: noted steps lead from the first state to where the revision stands; size and group stay.
 use Rattle.std.proofs.Common.{◌≡◌}
+use mathlib.Core.Bool.{not}
+use lib.Dec.{eqb}
 use Rattle.version_map.specs.Deltas.{at}
 use Rattle.version_map.specs.Overlay.{under}
 use Rattle.code_machine.specs.Leg.{clock}
@@ -9,7 +11,7 @@ use Rattle.leg_run.proofs.legs.run.Given as goal
 
 abbrev pub invariant-loop-end : goal.invariant-loop-end
 invariant-loop-end g l = record {
-  ahead : AheadTo l.setting.code l.setting.inputs.items l.setting.share
+  ahead : AheadTo (not (eqb g.row.NOTING 0)) l.setting.code l.setting.inputs.items l.setting.share
       (state_of l.setting.code l.initial.revision.run
       (under l.initial.revision.memory.delta (g.P.Snapshot.base l.initial.revision.memory.snapshot))
       (at l.initial.revision.memory.first.roots))

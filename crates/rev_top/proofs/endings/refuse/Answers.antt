@@ -7,9 +7,9 @@ use Rattle.rev_top.proofs.endings.refuse.Goals as goal
 pub returns-in-Ok : goal.returns-in-Ok
 returns-in-Ok g c =
     let h = c.in-Ok.ensures in
-    refusal_delivered c.args.stop _ _ _ _ _ h.0 h.1 (output c.in-Ok.report) h.2 c.deliver.ensures
+    refusal_delivered c.args.stop h.0 h.1 (output c.in-Ok.report) h.2 c.deliver.ensures
 
 pub returns-in-Err : goal.returns-in-Err
 returns-in-Err g c =
-    refusal_lost c.args.stop _ _ _ _ _ c.out_of_memory.ensures.status
+    refusal_lost c.args.stop c.out_of_memory.ensures.status
     (record { untouched = refl; message = c.out_of_memory.ensures.some })

@@ -5,7 +5,7 @@ use Rattle.rev_top.proofs.happening.happen.Goals as goal
 
 pub returns-in-Err-clause-happened : goal.returns-in-Err-clause-happened
 returns-in-Err-clause-happened g c =
-    words_refused _ _ _ _ _ _ c.in-Err.fault _ c.in-Err.ensures.reading c.from.result c.from.ensures c.refuse.ensures
+    words_refused c.in-Err.fault _ c.in-Err.ensures.reading c.from.result c.from.ensures c.refuse.ensures
 
 pub returns-in-Err-clause-takes : goal.returns-in-Err-clause-takes
 returns-in-Err-clause-takes g c = takes_nothing _ _

@@ -3,4 +3,4 @@ use Rattle.rev_top.proofs.Rans.{happened}
 use Rattle.rev_top.proofs.happening.happen_to.Goals as goal
 
 pub returns-in-Ok-clause-happened : goal.returns-in-Ok-clause-happened
-returns-in-Ok-clause-happened g c = happened _ _ _ _ _ _ _ _ _ _ c.in-Ok.ensures.report c.deliver.ensures
+returns-in-Ok-clause-happened g c = happened c.in-Ok.ensures.report c.deliver.ensures

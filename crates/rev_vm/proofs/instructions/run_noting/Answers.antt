@@ -6,7 +6,7 @@ use Rattle.block_run.specs.Area.{count}
 use Rattle.code_machine_laws.specs.LegReads.{leg_reads}
 use Rattle.leg_run.specs.Noting.{marks_of}
 use Rattle.leg_run.specs.Standing.{state_of}
-use Rattle.leg_run.proofs.NotedLegs.{marked_back, on_of, places_of}
+use Rattle.leg_run.proofs.NotedLegs.{marked_back, places_of}
 use Rattle.rev_vm.specs.Starts.{run_under}
 use Rattle.rev_vm.proofs.instructions.run_noting.Goals as goal
 
@@ -18,9 +18,6 @@ run-end-requires-clause-places g c =
       of_positions = c.requires.positions;
       few = c.requires.few;
     })
-
-pub run-end-requires-clause-on : goal.run-end-requires-clause-on
-run-end-requires-clause-on g c = on_of c.in_ok-notes.notes c.args.noted.now c.in_ok-notes.ensures.on
 
 pub returns-clause-noted : goal.returns-clause-noted
 returns-clause-noted g c =

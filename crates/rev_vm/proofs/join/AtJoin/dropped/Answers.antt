@@ -10,5 +10,5 @@ tell-requires t c = same_ready (sym c.deref_mut.ensures.value) c.args.self.ready
 pub returns-clause-state : goal.returns-clause-state
 returns-clause-state t c = λ g s h.
     let e = sym c.deref_mut.ensures.value in
-    dropped_at g _ _ _ _ _ _ _ s (same_join e g c.args.self.is_try c.args.self.on s h)
+    dropped_at g s (same_join e g c.args.self.is_try c.args.self.on s h)
     (same_ready e c.args.self.ready) c.requires c.tell.ensures

@@ -4,14 +4,14 @@ use Rattle.code_soundness.specs.Typed.{location_kinds}
 use Rattle.code_machine.specs.Local.{trapped, written_from}
 use Rattle.code_machine.specs.Joining.{origin_of}
 use Rattle.rev_vm.specs.Meaning.{AreWritten, IsPhase}
-use Rattle.rev_vm.proofs.Joins.{joiner_wrote}
+use Rattle.rev_vm.proofs.Joins.{its_writes}
 use Rattle.rev_vm.proofs.join.AtJoin.trapped.Goals as goal
 
 pub returns-clause-end : goal.returns-clause-end
 returns-clause-end t c = λ g s u h k. record {
   written = subst (AreWritten (location_kinds g.code.vars) (written_from 0 s.locations))
       (sym c.stop_in_room.ensures.written)
-      (joiner_wrote g _ _ _ _ _ _ s h _ (sym c.args.self.revision.value.memory.written ∙ h.stands.size));
+      (its_writes g s h (sym c.args.self.revision.value.memory.written ∙ h.stands.size));
   text = c.stop_in_room.ensures.text ∙ sym h.stands.stands.text;
   fuel = c.stop_in_room.ensures.fuel ∙ h.stands.stands.here.run.fuel;
   phase = subst
