@@ -30,9 +30,9 @@ module _ {R A E : Type 0} where
   record_more (y ∷ rs) zero = refl
   record_more (y ∷ rs) (suc j) = record_more rs j
 
-  pub longer_next : (q q' q'' : RunQueue) (rs rs' rs'' : List (Option (Status R A E))) → IsLonger q q' rs rs'
+  pub longer_next : {q q' q'' : RunQueue} {rs rs' rs'' : List (Option (Status R A E))} → IsLonger q q' rs rs'
       → IsLonger q' q'' rs' rs'' → IsLonger q q'' rs rs''
-  longer_next q q' q'' rs rs' rs'' a b = record {
+  longer_next a b = record {
     same = λ j. b.same j ∙ a.same j;
     long = let x = a.long in let y = b.long in omega arith;
     lists = λ ready waits h. b.lists ready waits (a.lists ready waits h);

@@ -73,7 +73,9 @@ module _ (fs : Funs) (n : Names) (a b c : Value) where
     form_is (apply w args) = tt
     form_is (input at index) = tt
     form_is (inputs at) = tt
-    form_is (pick test x y) = three_is _ _ _ _ _ _ (expression_is test) (expression_is x) (expression_is y)
+    form_is (pick test x y) =
+        three_is (renamed n test) (renamed n x) (renamed n y) (value_by fs env test) (value_by fs env x)
+        (value_by fs env y) (expression_is test) (expression_is x) (expression_is y)
     form_is (unary op part) = part_is op _ _ (expression_is part)
     form_is (chain first rest) = links_is _ _ _ (λ x. chained fs env x rest) (expression_is first) (rest_is rest)
 

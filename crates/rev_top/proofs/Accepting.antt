@@ -54,11 +54,11 @@ fed words w source source' text is run h =
     let limit : reads words ≡ Some source_limit = ap reads is ∙ ap reads_of run in
     subst (λ (r : Option ℕ). Feeds r source source' text) (sym limit) h
 
-pub accepted : {words : Option Words} {source source' out out' err err' : Stream} {status : ℕ}
+pub accepted : {words : Option Words} {source : Stream} (source' : Stream) {out out' err err' : Stream} {status : ℕ}
     → (Calm out out' err err' status → (all : List ℕ) → Feeds (reads words) source source' all
     → IsWritten words all out out' err err' status)
     → Accepted words source source' out out' err err' status
-accepted {words} {source} {source'} {out} {out'} {err} {err'} {status} headline w is run text told short sound rose
+accepted {words} {source} source' {out} {out'} {err} {err'} {status} headline w is run text told short sound rose
     calm =
     let k = headline calm text (fed words w source source' text is run (told, rose)) in
     let h = said words text k.output k.writes in

@@ -54,16 +54,16 @@ abbrev pub TopOf : (words stride masks at left : ℕ) (chain : List Entry)
     → Tail words stride masks at left chain → Type 0
 TopOf words stride masks at left chain t = Top words stride masks at t.rest
 
-pub tail_top : (words stride masks at left : ℕ) (chain : List Entry)
+pub tail_top : {words stride masks at left : ℕ} {chain : List Entry}
     (t : Tail words stride masks at left chain) → 0 < left
     → TopOf words stride masks at left chain t
-tail_top words stride masks at left chain t h = let many = t.many in
+tail_top {words} {stride} {masks} {at} {left} t h = let many = t.many in
     top_of words stride masks at t.rest t.here t.sounds (omega arith)
 
-pub top_part : (words stride masks at left : ℕ) (chain : List Entry)
+pub top_part : {words stride masks at left : ℕ} {chain : List Entry}
     (t : Tail words stride masks at left chain) (p : TopOf words stride masks at left chain t)
     → Has p.e chain
-top_part words stride masks at left chain t p =
+top_part t p =
     t.part p.e (subst (Has p.e) (sym p.is) (inl refl))
 
 -- what is left below it
@@ -84,10 +84,10 @@ pub record Going (root : List ℕ) (words stride masks l at left : ℕ) (chain :
     pub tail : Tail words stride masks at left chain
     pub same : value masks root chain l ≡ value masks root tail.rest l
 
-pub start : (root : List ℕ) (words stride masks l at left : ℕ) (chain : List Entry)
+pub start : {root : List ℕ} {words stride masks l at left : ℕ} {chain : List Entry}
     → at ≡ first_of chain → left ≡ length chain → Sound words stride masks chain
     → Going root words stride masks l at left chain
-start root words stride masks l at left chain p q w =
+start {root} {words} {stride} {masks} {l} {at} {left} {chain} p q w =
     record { tail = entire words stride masks at left chain p q w; same = refl }
 
 -- at a segment of the rest: what a load of its word i finds
@@ -102,18 +102,18 @@ pub record At (root : List ℕ) (words stride masks l at left : ℕ) (chain : Li
       → Going root words stride masks l next n chain
   pub found : bit_of e l ≡ 1 → value masks root chain l ≡ word_of e (2 + masks + l)
 
-pub visit : (root : List ℕ) (words stride masks l at left : ℕ) (chain : List Entry)
+pub visit : {root : List ℕ} {words stride masks l at left : ℕ} {chain : List Entry}
     → Going root words stride masks l at left chain → 0 < left
     → At root words stride masks l at left chain
-visit root words stride masks l at left chain g h = let t = g.tail in
-    let p = tail_top words stride masks at left chain t h in
+visit {root} {words} {stride} {masks} {l} {at} {left} {chain} g h = let t = g.tail in
+    let p = tail_top t h in
     let here : value masks root chain l ≡ value masks root (p.e ∷ p.more) l =
     g.same ∙ ap (λ (es : List Entry). value masks root es l) p.is in
     let pick : Bool → ℕ = λ b. cond b (word_of p.e (2 + masks + l)) (value masks root p.more l) in
     record {
       e = p.e;
       seg = p.seg;
-      has = top_part words stride masks at left chain t p;
+      has = top_part t p;
       whole = p.whole;
       more = p.more;
       up = p.up;
@@ -131,11 +131,11 @@ segment_word e s at i x has seg word known =
     word e (word_of e i) has (ap (λ (n : ℕ). look e.body (n + i)) seg ∙ known)
 
 -- what a load of the segment's word i gives
-pub loaded : (root : List ℕ) (words stride masks l at left i x : ℕ) (chain : List Entry)
+pub loaded : {root : List ℕ} {words stride masks l at left : ℕ} (i x : ℕ) {chain : List Entry}
     (a : At root words stride masks l at left chain) (s : Place)
     → (view s).chain ≡ chain → IsWord s (at + i) x → Known a.e i
     → x ≡ word_of a.e i
-loaded root words stride masks l at left i x chain a s same word known =
+loaded {at = at} i x a s same word known =
     segment_word a.e s at i x (subst (Has a.e) (sym same) a.has) a.seg word known
 
 pub row_of : (masks n l : ℕ) → masks ≡ rows n → l < n → l / 64 < masks
@@ -168,15 +168,15 @@ bare_rest masks root rest l none =
     ap (λ (es : List Entry). value masks root es l) (no_entries rest none)
 
 -- at the end of the chain
-pub ended : (root : List ℕ) (words stride masks l at left : ℕ) (chain : List Entry)
+pub ended : {root : List ℕ} {words stride masks l at left : ℕ} {chain : List Entry}
     → Going root words stride masks l at left chain → left ≡ 0 → (x : ℕ) → x ≡ slice_index root l
     → x ≡ value masks root chain l
-ended root words stride masks l at left chain g none x e = e
+ended {root = root} {masks = masks} {l = l} g none x e = e
     ∙ sym (g.same ∙ bare_rest masks root g.tail.rest l (sym g.tail.many ∙ none))
 
-pub rests_log : (words stride masks first depth : ℕ) (v : SegmentView) (log : List Look)
+pub rests_log : {words stride masks first depth : ℕ} (v : SegmentView) (log : List Look)
     → Rests words stride masks first depth v → Rests words stride masks first depth (logged v log)
-rests_log words stride masks first depth v log r = record {
+rests_log v log r = record {
   single = r.single;
   not_alone = r.not_alone;
   not_building = r.not_building;
@@ -187,10 +187,10 @@ rests_log words stride masks first depth v log r = record {
   whole = r.whole;
 }
 
-pub rests_as : (words stride masks words' stride' masks' first depth : ℕ) (v : SegmentView)
+pub rests_as : {words stride masks words' stride' masks' first depth : ℕ} {v : SegmentView}
     → Rests words stride masks first depth v → words' ≡ words → stride' ≡ stride → masks' ≡ masks
     → Rests words' stride' masks' first depth v
-rests_as words stride masks words' stride' masks' first depth v r a b c =
+rests_as {first = first} {depth = depth} {v = v} r a b c =
     subst (λ (z : ℕ × ℕ × ℕ). Rests z.0 z.1 z.2 first depth v) (λ i. (sym a i, sym b i, sym c i)) r
 
 pub chain_of : (s t : Place) → view t ≡ view s → (view t).chain ≡ (view s).chain
@@ -237,12 +237,12 @@ pub head_word : (e : Entry) (more : List Entry) (s : Place) (at i x : ℕ)
 head_word e more s at i x is seg word known =
     segment_word e s at i x (subst (Has e) (sym is) (inl refl)) seg word known
 
-pub falls : (words stride masks at left next : ℕ) (s t u : Place)
+pub falls : {words stride masks at left : ℕ} (next : ℕ) (s t u : Place)
     → Falling words stride masks at left s t → 0 < left
     → ((e : Entry) (more : List Entry) → (view t).chain ≡ e ∷ more → Whole words stride masks e
     → next ≡ word_of e 1) → Becomes t u (pops (view t))
     → Falling words stride masks next (left - 1) s u
-falls words stride masks at left next s t u f h word b = let many = f.many in
+falls {words} {stride} {masks} {at} {left} next s t u f h word b = let many = f.many in
     let p = top_of words stride masks at (view t).chain f.head f.sounds (omega arith) in
     let tail : rest_of (view t).chain ≡ p.more = ap rest_of p.is in
     let is : view u ≡ pops (view t) = b.2 in
@@ -261,10 +261,10 @@ falls words stride masks at left next s t u f h word b = let many = f.many in
       number = b.1 ∙ f.number;
     }
 
-pub falls_same : (words stride masks at left : ℕ) (s t u : Place)
+pub falls_same : {words stride masks at left : ℕ} (s t u : Place)
     → Falling words stride masks at left s t → IsSameSeat t u
     → Falling words stride masks at left s u
-falls_same words stride masks at left s t u f b = let c = chain_of t u b.2 in
+falls_same {words} {stride} {masks} s t u f b = let c = chain_of t u b.2 in
     let v : view u ≡ view t = b.2 in record {
       head = f.head ∙ ap first_of (sym c);
       many = f.many ∙ ap length (sym c);
@@ -280,10 +280,10 @@ falls_same words stride masks at left s t u f b = let c = chain_of t u b.2 in
     }
 
 -- a hold whose chain was given up to its end
-pub fallen : (words stride masks first depth at left : ℕ) (s t : Place)
+pub fallen : {words stride masks first depth at left : ℕ} (s t : Place)
     → Falling words stride masks at left s t → left ≡ 0
     → Rests words stride masks first depth (view s) → Rests words stride masks 0 0 (view t)
-fallen words stride masks first depth at left s t f none r =
+fallen {words} {stride} {masks} s t f none r =
     let bare = no_entries (view t).chain (sym f.many ∙ none) in record {
       single = f.single;
       not_alone = f.alone r.not_alone;
@@ -296,10 +296,10 @@ fallen words stride masks first depth at left s t f none r =
     }
 
 -- a hold whose chain was given up as far as others refer to it
-pub let_go : (words stride masks first depth at left : ℕ) (s t u : Place)
+pub let_go : {words stride masks first depth at left : ℕ} (s t u : Place)
     → Falling words stride masks at left s t → Becomes t u (drops (view t))
     → Rests words stride masks first depth (view s) → Rests words stride masks 0 0 (view u)
-let_go words stride masks first depth at left s t u f b r =
+let_go {words} {stride} {masks} s t u f b r =
     let is : view u ≡ drops (view t) = b.2 in
     subst (Rests words stride masks 0 0) (sym is) record {
       single = f.single;

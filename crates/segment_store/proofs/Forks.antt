@@ -117,11 +117,11 @@ module _ (root : List ℕ) (words stride masks segment first depth : ℕ) (d : D
         base = base_is;
       }
 
-pub unlogged : (root : List ℕ) (words stride masks segment depth : ℕ) (d : Delta) (v : SegmentView)
-    (log : List Look) (w child : SegmentView)
+pub unlogged : (root : List ℕ) {words stride masks segment depth : ℕ} {d : Delta} (v : SegmentView)
+    (log : List Look) {w child : SegmentView}
     → Forked root words stride masks segment depth d (logged v log) w child
     → Forked root words stride masks segment depth d v w child
-unlogged root words stride masks segment depth d v log w child f =
+unlogged root v log f =
     record {
       parent_rests = f.parent_rests;
       child_rests = f.child_rests;
@@ -130,40 +130,40 @@ unlogged root words stride masks segment depth d v log w child f =
     }
 
 -- the value under words of one's own
-pub own_value : (words stride masks first depth : ℕ) (v : SegmentView) (initial ws : Vec ℕ Global)
+pub own_value : {words stride masks first depth : ℕ} {v : SegmentView} (initial ws : Vec ℕ Global)
     (own : Option (Vec ℕ Global)) (l : ℕ) → Rests words stride masks first depth v
     → IsOwn stride masks first own → own ≡ Some ws
     → value masks (root_in initial own) v.chain l ≡ slice_index ws.items l
-own_value words stride masks first depth v initial ws own l r own_is e =
+own_value {words} {stride} {masks} {first} {depth} {v} initial ws own l r own_is e =
     bare_value (root_in initial own) words stride masks first depth v l r (own_is ws e).1
     ∙ ap (λ (o : Option (Vec ℕ Global)). slice_index (root_in initial o) l) e
 
 -- a complete delta hides the root
-pub completes : (words stride masks first depth : ℕ) (v : SegmentView) (initial : Vec ℕ Global)
+pub completes : {words stride masks first depth : ℕ} (v : SegmentView) (initial : Vec ℕ Global)
     (own : Option (Vec ℕ Global)) (old new : Delta) (l : ℕ) → Rests words stride masks first depth v
     → IsOwn stride masks first own → IsComplete own old new → 2 + masks + l < stride
     → under new (value masks initial.items v.chain) l ≡ under old
     (value masks (root_in initial own) v.chain) l
-completes words stride masks first depth v initial None old new l r own_is done lt =
+completes {masks = masks} v initial None old new l r own_is done lt =
     ap (λ (d : Delta). under d (value masks initial.items v.chain) l) done.0
-completes words stride masks first depth v initial (Some ws) old new l r own_is done lt = let o =
+completes {words} {stride} {masks} {first} {depth} v initial (Some ws) old new l r own_is done lt = let o =
     own_is ws refl in let o0 = o.0 in
     ap (word_or (value masks initial.items v.chain l)) (done.1 l (omega arith))
     ∙ ap (λ (b : ℕ). word_or b (at old l))
     (sym (bare_value ws.items words stride masks first depth v l r o.1))
 
 -- below a chain are the store's words
-pub store_root : (words stride masks first depth : ℕ) (v : SegmentView) (initial : Vec ℕ Global)
+pub store_root : {words stride masks first depth : ℕ} (v : SegmentView) (initial : Vec ℕ Global)
     (own : Option (Vec ℕ Global)) → Rests words stride masks first depth v
     → IsOwn stride masks first own → depth ≢ 0 → root_in initial own ≡ initial.items
-store_root words stride masks first depth v initial None r own_is some = refl
-store_root words stride masks first depth v initial (Some ws) r own_is some =
-    absurd (some (empty words stride masks first depth v r (own_is ws refl).1))
+store_root v initial None r own_is some = refl
+store_root v initial (Some ws) r own_is some =
+    absurd (some (empty r (own_is ws refl).1))
 
 -- a hold with a chain has no words of its own
-pub own_none : (words stride masks first depth : ℕ) (v : SegmentView) (own : Option (Vec ℕ Global))
+pub own_none : {words stride masks first depth : ℕ} (v : SegmentView) (own : Option (Vec ℕ Global))
     → Rests words stride masks first depth v → IsOwn stride masks first own → depth ≢ 0
     → own ≡ None
-own_none words stride masks first depth v None r own_is some = refl
-own_none words stride masks first depth v (Some ws) r own_is some =
-    absurd (some (empty words stride masks first depth v r (own_is ws refl).1))
+own_none v None r own_is some = refl
+own_none v (Some ws) r own_is some =
+    absurd (some (empty r (own_is ws refl).1))

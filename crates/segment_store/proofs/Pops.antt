@@ -26,9 +26,9 @@ empty_at : (words stride masks : ℕ) (chain : List Entry) → Sound words strid
 empty_at words stride masks [] s e = refl
 empty_at words stride masks (x ∷ xs) s e = let p = s.0.segment.0 in absurd (omega arith)
 
-pub empty : (words stride masks first depth : ℕ) (v : SegmentView) → Rests words stride masks first depth v
+pub empty : {words stride masks first depth : ℕ} {v : SegmentView} → Rests words stride masks first depth v
     → first ≡ 0 → depth ≡ 0
-empty words stride masks first depth v r e = r.deep
+empty {words = words} {stride = stride} {masks = masks} {v = v} r e = r.deep
     ∙ empty_at words stride masks v.chain (sound words stride masks v.chain r.whole)
     (sym r.head ∙ e)
 
@@ -37,7 +37,7 @@ pub bare_value : (root : List ℕ) (words stride masks first depth : ℕ) (v : S
     → Rests words stride masks first depth v → first ≡ 0
     → value masks root v.chain l ≡ slice_index root l
 bare_value root words stride masks first depth v l r e = bare_rest masks root v.chain l
-    (sym r.deep ∙ empty words stride masks first depth v r e)
+    (sym r.deep ∙ empty r e)
 
 pub popped : (root : List ℕ) (words stride masks first up depth : ℕ) (old new : Delta) (v : SegmentView)
     (r : Rests words stride masks first depth v) (h : 0 < first)

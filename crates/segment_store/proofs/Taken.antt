@@ -64,30 +64,30 @@ pub record Taking (root : List ℕ) (words stride masks segment left : ℕ) (cha
   pub same : (l : ℕ) → 2 + masks + l < stride
       → under new (value masks root tail.rest) l ≡ under old (value masks root chain) l
 
-pub taking_starts : (root : List ℕ) (words stride masks segment left : ℕ) (chain : List Entry)
-    (d : Delta) → segment ≡ first_of chain → left ≡ length chain → Sound words stride masks chain
+pub taking_starts : {root : List ℕ} {words stride masks segment left : ℕ} {chain : List Entry}
+    {d : Delta} → segment ≡ first_of chain → left ≡ length chain → Sound words stride masks chain
     → Taking root words stride masks segment left chain d d
-taking_starts root words stride masks segment left chain d p q w =
+taking_starts {root} {words} {stride} {masks} {segment} {left} {chain} p q w =
     record { tail = entire words stride masks segment left chain p q w; same = λ l lt. refl }
 
 -- the first segment of the tail is taken
-pub takes : (root : List ℕ) (words stride masks segment left next n : ℕ) (chain : List Entry)
-    (old mid new : Delta) (g : Taking root words stride masks segment left chain old mid)
+pub takes : {root : List ℕ} {words stride masks segment left : ℕ} (next n : ℕ) {chain : List Entry}
+    {old : Delta} (mid new : Delta) (g : Taking root words stride masks segment left chain old mid)
     (p : TopOf words stride masks segment left chain g.tail) → n + 1 ≡ left → next ≡ word_of p.e 1
     → ((l : ℕ) → 2 + masks + l < stride
     → IsTaken words stride masks segment l chain (at mid l) (at new l))
     → Taking root words stride masks next n chain old new
-takes root words stride masks segment left next n chain old mid new g p one is took = record {
+takes {root} {words} {stride} {masks} {segment} {left} next n {chain} mid new g p one is took = record {
   tail = lower words stride masks segment left next n chain g.tail p one (is ∙ p.up);
   same = λ l lt. took_head masks root p.e p.more mid new l
-      (took l lt p.e (top_part words stride masks segment left chain g.tail p) p.seg p.whole)
+      (took l lt p.e (top_part g.tail p) p.seg p.whole)
       ∙ (ap (λ (es : List Entry). under mid (value masks root es) l) (sym p.is) ∙ g.same l lt);
 }
 
-pub taken_all : (root : List ℕ) (words stride masks segment left : ℕ) (chain : List Entry)
-    (old new : Delta) → Taking root words stride masks segment left chain old new → left ≡ 0
+pub taken_all : {root : List ℕ} {words stride masks segment left : ℕ} {chain : List Entry}
+    {old new : Delta} → Taking root words stride masks segment left chain old new → left ≡ 0
     → (l : ℕ) → 2 + masks + l < stride
     → under new (slice_index root) l ≡ under old (value masks root chain) l
-taken_all root words stride masks segment left chain old new g none l lt =
+taken_all {root = root} {masks = masks} {new = new} g none l lt =
     ap (λ (b : ℕ). word_or b (at new l))
     (sym (bare_rest masks root g.tail.rest l (sym g.tail.many ∙ none))) ∙ g.same l lt

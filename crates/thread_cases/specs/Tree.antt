@@ -1,7 +1,6 @@
--- A tree of revisions as a machine by numbers. Each but the leaves forks two children and joins two
--- revisions, or the first
--- one forks leaves in rounds, and joins them, or forks two revisions with rounds of their own,
--- or a leaf and one of these.
+-- A tree of revisions as a machine by numbers. Each but the leaves forks two children and joins two revisions, or the
+-- first one forks leaves in rounds, and joins them, or forks two revisions with rounds of their own, or a leaf and one
+-- of these.
 --   next, joined   what a revision does next, and what a join makes of it
 --   goes_on, is_early   it has not ended, or may fork
 use Rattle.std.specs.Prelude.{◌≡◌, ℕ, ◌+◌, ◌-◌, ◌^◌, ◌==◌, min, Bool, true, false, cond}

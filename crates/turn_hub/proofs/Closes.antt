@@ -313,13 +313,13 @@ module _ {L R A E : Type 0} (d : HubMachine L R A E) (ends : E → L → Type 0)
             let b = c.counted in
             absurd (omega arith)
 
-    pub leaves : (schedule forkers : List ℕ) (ended : List (Option E)) (kept : List (Kept R A)) (taken : ℕ → ℕ)
+    pub leaves : {schedule forkers : List ℕ} {ended : List (Option E)} {kept : List (Kept R A)} {taken : ℕ → ℕ}
         → schedule ≡ weave (count - 1) 1 (pairs desk.journal.entries.items) (look_of rs)
         → forkers ≡ 0 ∷ weave_forkers (count - 1) 1 (pairs desk.journal.entries.items) (look_of rs)
         → ended ≡ ends_of count (records_of desk) → kept ≡ kept_in (records_of desk)
         → ((n : ℕ) → named n v.seat.passes ≡ taken n)
         → IsClosed d ends first desk.state schedule forkers ended kept taken
-    leaves schedule forkers ended kept taken log_are forks_are ends_are kept_are same =
+    leaves {schedule} {forkers} {ended} {kept} {taken} log_are forks_are ends_are kept_are same =
         let shown = marks (records_of desk) c.slots c.lone c.shadows in (
           c.start,
           c.begun,

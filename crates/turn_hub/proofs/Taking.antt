@@ -7,8 +7,8 @@ use Rattle.turn_hub.specs.Turns.{IsIn}
 
 module _ {L R A E : Type 0} (d : HubMachine L R A E) (ends : E → L → Type 0) where
   -- when it has taken the turn
-  pub in_taken : (v w : Sight L) (desk : Desk R A E) → Took d ends v w desk → IsIn d ends v w desk
-  in_taken v w desk took = record {
+  pub in_taken : {v w : Sight L} {desk : Desk R A E} → Took d ends v w desk → IsIn d ends v w desk
+  in_taken took = record {
     hand = took.hand;
     same = (took.same.0, took.same.1, took.same.2, took.same.3, took.same.4, took.same.5);
     limit = took.limit;

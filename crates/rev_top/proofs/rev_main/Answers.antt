@@ -9,7 +9,7 @@ returns-clause-keeps g c = keeps _ c.happen.ensures.happened c.happen.ensures.ta
 
 pub returns-clause-accepted : goal.returns-clause-accepted
 returns-clause-accepted g c =
-    accepted (keeps _ c.happen.ensures.happened c.happen.ensures.takes).headline
+    accepted _ (keeps _ c.happen.ensures.happened c.happen.ensures.takes).headline
 
 pub returns-clause-ran : goal.returns-clause-ran
 returns-clause-ran g c = ran_of c.happen.ensures.happened

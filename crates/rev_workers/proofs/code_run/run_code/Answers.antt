@@ -2,6 +2,7 @@
 use Rattle.std.proofs.Common.{rules, ◌<◌, ◌^◌, slice_index_or, sym, ◌∙◌, subst, arith}
 use Rattle.run_revision.specs.Laws.{IsStart}
 use Rattle.rev_vm.specs.Starts.{run_under}
+use Rattle.turn_hub.specs.Names.{run_state, run_schedule, run_forkers, run_ends}
 use Rattle.run_revision.proofs.CodeRuns.{of_code}
 use Rattle.rev_workers.proofs.code_run.run_code.Goals as goal
 
@@ -21,8 +22,9 @@ run-requires-clause-group g c κs within k d h = (c.requires.hands k d h).2 ∙ 
 pub returns-in-Ok-run-clause-schedule : goal.returns-in-Ok-run-clause-schedule
 returns-in-Ok-run-clause-schedule g c =
     let r = c.in-Ok-run.ensures.run in
-    of_code (run_under c.args.setting.now) c.args.fuel c.in-Ok.first.state c.in-Ok.ensures.start _ _ _ _ _ r.kept
-    r.taken r.closed
+    let run = c.in-Ok-run.finished.run in
+    of_code (run_under c.args.setting.now) c.args.fuel c.in-Ok.first.state c.in-Ok.ensures.start c.in-Ok.first.group
+    (run_state run) (run_schedule run) (run_forkers run) (run_ends run) r.kept r.taken r.closed
 
 pub returns-in-Ok-run-clause-hands : goal.returns-in-Ok-run-clause-hands
 returns-in-Ok-run-clause-hands g c k d h = c.in-Ok-run.ensures.hands k d h ∙ c.in-Ok.ensures.group

@@ -7,8 +7,8 @@ pub loop-preserved : goal.loop-preserved
 loop-preserved g c =
     let i = c.loop.invariant in
     let one = c.lengthen.ensures.one in
-    (longer_next _ _ _ _ _ _ i.0 c.lengthen.ensures.longer, search rules)
+    (longer_next i.0 c.lengthen.ensures.longer, search rules)
 
 pub returns-then-not-lengthen-clause-longer : goal.returns-then-not-lengthen-clause-longer
 returns-then-not-lengthen-clause-longer g c =
-    longer_next _ _ _ _ _ _ c.loop.invariant.0 c.lengthen.ensures.longer
+    longer_next c.loop.invariant.0 c.lengthen.ensures.longer

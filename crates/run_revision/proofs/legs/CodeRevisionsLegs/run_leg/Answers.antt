@@ -19,10 +19,12 @@ invariant_of-result g c =
 
 pub invariant_of-result-in-Ok-Join : goal.invariant_of-result-in-Ok-Join
 invariant_of-result-in-Ok-Join g c =
+    let own = run_under c.runner.inside.setting.now in
     let e = rw c.in-Ok-Join.field-0-is at
-    (c.in-Ok-Join.ensures.event (runner_state (run_under c.runner.inside.setting.now) c.runner.inside.runner)
-    c.runner.invariant) in
-    join_own (run_under c.runner.inside.setting.now) _ _ _ _ _ _ e.0 e.2
+    (c.in-Ok-Join.ensures.event (runner_state own c.runner.inside.runner) c.runner.invariant) in
+    let at = c.in-Ok-Join.at in
+    join_own own at.revision.value.run at.revision.value.memory.delta
+    (g.P.Snapshot.base at.revision.value.memory.snapshot) at.revision.value.memory.first.roots at.is_try at.on e.0 e.2
 
 pub leave-requires-clause-end : goal.leave-requires-clause-end
 leave-requires-clause-end g c =

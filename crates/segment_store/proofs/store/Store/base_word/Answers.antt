@@ -14,5 +14,5 @@ returns-in-Some-clause-value c = let r = c.requires.rests in
     let w = c.args.self.now.wide in let w0 = w.0 in let l = c.requires.inside in
     let read = get_or_read_under c.in-Some.words.items c.args.location c.in-Some.words.len
     c.index.result.now 0 c.index.ensures (omega arith) (search rules) in
-    read ∙ sym (own_value _ _ _ _ _ _ c.args.self.now.initial c.in-Some.words c.args.own.now
+    read ∙ sym (own_value c.args.self.now.initial c.in-Some.words c.args.own.now
     c.args.location r.0 r.1 c.in-Some.is)

@@ -8,11 +8,11 @@ use Rattle.segment_store.proofs.store.Store.collapse.Goals as goal
 
 pub returns-then-hold-eq0-clause-bottom : goal.returns-then-hold-eq0-clause-bottom
 returns-then-hold-eq0-clause-bottom c =
-    λ _. (empty _ _ _ _ _ _ c.args.hold.now.rests (search rules), refl, refl)
+    λ _. (empty c.args.hold.now.rests (search rules), refl, refl)
 
 pub invariant_of-hold : goal.invariant_of-hold
 invariant_of-hold c = let o = c.requires.own.0 in record {
-  rests = rests_as _ _ _ _ _ _ _ _ _ (c.in-Ok.ensures.took []).rests
+  rests = rests_as (c.in-Ok.ensures.took []).rests
       (room_in c.args.self.now c.pop.new.seat (c.in-Ok.ensures.same.0 ∙ o.0)) o.1 o.2;
   own_words = λ ws e. absurd (c.if-hold-eq0.false (c.args.hold.now.own_words ws e).1);
   short = let h = c.args.hold.now.short in omega arith;

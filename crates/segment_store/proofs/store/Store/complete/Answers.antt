@@ -46,11 +46,11 @@ has_none d old new xs l i none size here others = (
   λ k le. others k (λ is. omega arith) ∙ i.2 k (omega arith),
 )
 
-in_words : (l end d n len k : ℕ) → l < end → end ≡ d → d ≡ n → len ≡ n → len ≡ k → l < k
-in_words l end d n len k lt p q r e = omega arith
+in_words : {l end d n len k : ℕ} → l < end → end ≡ d → d ≡ n → len ≡ n → len ≡ k → l < k
+in_words {l} {end} {d} {n} {len} {k} lt p q r e = omega arith
 
-all_in : (l len n d end now : ℕ) → l < len → len ≡ n → d ≡ n → end ≡ d → end ≤ now → l < now
-all_in l len n d end now lt p q r e = omega arith
+all_in : (l : ℕ) {len n d end now : ℕ} → l < len → len ≡ n → d ≡ n → end ≡ d → end ≤ now → l < now
+all_in l {len} {n} {d} {end} {now} lt p q r e = omega arith
 
 in_range : (l end n m : ℕ) → l < end → end ≡ n → m ≡ n → l < m
 in_range l end n m lt e f = omega arith
@@ -72,7 +72,7 @@ loop-l-preserved c = let i = c.loop-l.invariant in let d = c.args.delta.now in
       | in-None w ↦ subst (Completed d xs (c.loop-l.l + 1)) (sym w.delta-is)
           (has_none d c.loop-l.delta w.set.new.self xs c.loop-l.l i
           (sym c.get.ensures ∙ w.in-None.is) w.set.ensures.size (w.set.ensures.here
-          ∙ ap Some (get_or_read xs _ _ (in_words _ _ _ _ _ _ c.loop-l-test.true
+          ∙ ap Some (get_or_read xs _ _ (in_words c.loop-l-test.true
           c.locations-l-end.ensures c.requires.0 many c.in-Some.words.ok.0) w.index.ensures 0))
           w.set.ensures.others)
     ]
@@ -84,5 +84,5 @@ returns-after-loop-l-clause-values c =
     subst (λ (o : Option (Vec ℕ Global)). IsComplete o c.args.delta.now c.loop-l.delta) (sym c.in-Some.is) (
       tt,
       λ l lt. c.loop-l.invariant.1 l
-          (all_in l _ _ _ _ _ lt many c.requires.0 c.locations-l-end.ensures c.loop-l-test.false),
+          (all_in l lt many c.requires.0 c.locations-l-end.ensures c.loop-l-test.false),
     )

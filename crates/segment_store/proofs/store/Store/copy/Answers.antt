@@ -11,7 +11,7 @@ use Rattle.segment_store.proofs.store.Store.copy.Goals as goal
 pub returns-clause-own : goal.returns-clause-own
 returns-clause-own c = let h = c.args.hold.now in let s = c.args.self.now in
     let k = c.keep_words.ensures in
-    let root = store_root _ _ _ _ _ (view h.seat) s.initial h.own h.rests h.own_words
+    let root = store_root (view h.seat) s.initial h.own h.rests h.own_words
     c.if-hold-eq0.false in (
       k.own.0,
       λ l lt. k.base l ∙ (c.in_ok-base.ensures.words.1 l lt
@@ -22,7 +22,7 @@ returns-clause-own c = let h = c.args.hold.now in let s = c.args.self.now in
 pub returns-clause-words : goal.returns-clause-words
 returns-clause-words c = let h = c.args.hold.now in let s = c.args.self.now in
     let o = c.requires.own.1 in let q = c.in_ok-words.ensures in
-    let root = store_root _ _ _ _ _ (view h.seat) s.initial h.own h.rests h.own_words
+    let root = store_root (view h.seat) s.initial h.own h.rests h.own_words
     c.if-hold-eq0.false in (
       q.0 ∙ o,
       λ l lt. q.1 l (subst (λ (n : ℕ). l < n) (sym o) lt)

@@ -137,5 +137,5 @@ pub fork_long-requires-clause-some : goal.fork_long-requires-clause-some
 fork_long-requires-clause-some c = let k = c.if-is_empty.hold in
     let long = c.if-hold-ge-LONGEST.true in (
       omega arith,
-      own_none _ _ _ _ _ (view k.seat) k.own k.rests k.own_words (λ e. omega arith),
+      own_none (view k.seat) k.own k.rests k.own_words (λ e. omega arith),
     )

@@ -26,12 +26,12 @@ returns-clause-some c = let some = c.claim_any-segment.ensures.some
     (publishes (filled (claims (logged v log) c.claim_any-segment.result) made))))
     (hands_right (counts
     (publishes (filled (claims (logged v log) c.claim_any-segment.result) made)))) =
-    λ root. unlogged root _ _ _ _ _ _ v log _ _
+    λ root. unlogged root v log
     (forked root c.args.self.now.words c.args.self.now.stride c.args.self.now.masks
     c.claim_any-segment.result c.args.first c.args.depth c.complete.new.delta (logged v log)
     made c.fill.ensures.laid
     (λ l h. row_of _ _ l c.args.self.now.rowed.0 (omega arith)) (omega arith)
-    (rests_log _ _ _ _ _ v log c.requires.rests) some.1 some.2) in (
+    (rests_log v log c.requires.rests) some.1 some.2) in (
       (let h = c.if-segment-eq0.false in omega arith),
       c.hand_on-child.ensures.given.0
           ∙ (c.tally.ensures.0 ∙ (c.publish.ensures.view.0 ∙ (c.fill.ensures.view.0 ∙ some.0.0))),

@@ -14,7 +14,7 @@ store-requires c = let s = c.args.self.now in let size = size_of s.table in let 
     let fits = word_fits s c.args.segment c.args.i o.1 in record {
       own = (of_named s.table c.args.seat.now o.0, word_in s c.args.segment c.args.i o.1);
       there = known_there size.words size.stride size.masks (some_stride s) _ _ _ c.args.segment c.requires.built.1;
-      allowed = put size.words size.stride size.masks (some_stride s) _ _ _ _ _
+      allowed = put size.words size.stride size.masks (some_stride s) 0 _ _ c.args.i c.args.x
           (omega arith) (omega arith) (omega arith) (omega arith);
     }
 

@@ -23,9 +23,9 @@ loop-below-init c = let r = c.requires.rests in
 
 pub loop-below-preserved : goal.loop-below-preserved
 loop-below-preserved c = let f = c.loop-below.invariant in let same = c.word-up.ensures.same in
-    let g = falls_same _ _ _ _ _ c.args.seat.now c.loop-below.seat c.word-up.new.seat f same in
+    let g = falls_same c.args.seat.now c.loop-below.seat c.word-up.new.seat f same in
     let w = c.args.self.now.wide in let w0 = w.0 in
-    falls _ _ _ _ _ c.word-up.result c.args.seat.now c.word-up.new.seat c.release_one.new.seat g
+    falls c.word-up.result c.args.seat.now c.word-up.new.seat c.release_one.new.seat g
     c.loop-below-test.true
     (λ e more is whole. let is' = sym (chain_of c.loop-below.seat c.word-up.new.seat same.2) ∙ is in
     head_word e more c.loop-below.seat c.loop-below.at 1 c.word-up.result is'
@@ -41,13 +41,13 @@ returns-then-not-release_one-clause-log c = let f = c.loop-below.invariant in
 
 pub returns-then-not-release_one-clause-rests : goal.returns-then-not-release_one-clause-rests
 returns-then-not-release_one-clause-rests c = let f = c.loop-below.invariant in
-    let_go _ _ _ _ _ _ _ c.args.seat.now c.word-up.new.seat c.release_one.new.seat
-    (falls_same _ _ _ _ _ c.args.seat.now c.loop-below.seat c.word-up.new.seat f
+    let_go c.args.seat.now c.word-up.new.seat c.release_one.new.seat
+    (falls_same c.args.seat.now c.loop-below.seat c.word-up.new.seat f
     c.word-up.ensures.same) (c.release_one.ensures.more c.if-not-release_one.true)
 
 pub returns-clause-log : goal.returns-clause-log
 returns-clause-log c = c.loop-below.invariant.log
 
 pub returns-clause-rests : goal.returns-clause-rests
-returns-clause-rests c = fallen _ _ _ _ _ _ _ c.args.seat.now c.loop-below.seat
+returns-clause-rests c = fallen c.args.seat.now c.loop-below.seat
     c.loop-below.invariant (let h = c.loop-below-test.false in omega arith)

@@ -12,8 +12,8 @@ pub exchange_head-requires : goal.exchange_head-requires
 exchange_head-requires c = let s = c.args.self.now in let size = size_of s.table in let o = c.requires.own in
     let h = c.requires.head in record {
       own = (of_named s.table c.args.seat.now o.0, part_in s c.args.segment o.1);
-      allowed = share size.words size.stride size.masks (some_stride s) _ _ _ _ _ o.1.0 h.0 h.1 c.requires.few.0
-          c.requires.few.1;
+      allowed = share size.words size.stride size.masks (some_stride s) 0 _ _ c.args.segment c.args.old o.1.0 h.0
+          h.1 c.requires.few.0 c.requires.few.1;
       backed = chain_backs size.words size.stride size.masks (some_stride s) _ _ _ c.args.segment
           (λ n. either (eqb n c.args.old) (c.args.old + 1) n) (first_in _ c.args.segment o.1.0 h.0);
     }

@@ -10,18 +10,18 @@ use Rattle.segment_store.proofs.store.Store.walk.Goals as goal
 pub loop-left-init : goal.loop-left-init
 loop-left-init c = (
   (refl, refl, refl),
-  start _ _ _ _ _ _ _ _ c.requires.chain.0 c.requires.chain.1 c.requires.chain.2,
+  start c.requires.chain.0 c.requires.chain.1 c.requires.chain.2,
 )
 
 pub overflow_add-at : goal.overflow_add-at
-overflow_add-at c = let a = visit _ _ _ _ _ _ _ _ c.loop-left.invariant.1 c.loop-left-test.true in
+overflow_add-at c = let a = visit c.loop-left.invariant.1 c.loop-left-test.true in
     let w = c.args.self.now.wide in let w0 = w.0 in let w3 = w.3 in let room = a.whole.room in
     let at = a.seg in let l = c.requires.inside in
     let low = row_of c.args.self.now.masks _ c.args.location c.args.self.now.rowed.0
     c.requires.inside in omega arith
 
 pub word-mask-requires : goal.word-mask-requires
-word-mask-requires c = let a = visit _ _ _ _ _ _ _ _ c.loop-left.invariant.1
+word-mask-requires c = let a = visit c.loop-left.invariant.1
     c.loop-left-test.true in let w = c.args.self.now.wide in let w0 = w.0 in let w3 = w.3 in
     let room = a.whole.room in let at = a.seg in let l = c.requires.inside in
     let low = row_of c.args.self.now.masks _ c.args.location c.args.self.now.rowed.0
@@ -35,14 +35,14 @@ word-mask-requires c = let a = visit _ _ _ _ _ _ _ _ c.loop-left.invariant.1
 
 pub overflow_add-at-then-mask-location-eq1 : goal.overflow_add-at-then-mask-location-eq1
 overflow_add-at-then-mask-location-eq1 c = let a =
-    visit _ _ _ _ _ _ _ _ c.loop-left.invariant.1 c.loop-left-test.true in
+    visit c.loop-left.invariant.1 c.loop-left-test.true in
     let w = c.args.self.now.wide in let w0 = w.0 in let w3 = w.3 in let room = a.whole.room in
     let at = a.seg in let l = c.requires.inside in
     let low = row_of c.args.self.now.masks _ c.args.location c.args.self.now.rowed.0
     c.requires.inside in omega arith
 
 pub word-requires : goal.word-requires
-word-requires c = let a = visit _ _ _ _ _ _ _ _ c.loop-left.invariant.1 c.loop-left-test.true in
+word-requires c = let a = visit c.loop-left.invariant.1 c.loop-left-test.true in
     let w = c.args.self.now.wide in let w0 = w.0 in let w3 = w.3 in let room = a.whole.room in
     let at = a.seg in let l = c.requires.inside in
     let low = row_of c.args.self.now.masks _ c.args.location c.args.self.now.rowed.0
@@ -60,7 +60,7 @@ word-requires c = let a = visit _ _ _ _ _ _ _ _ c.loop-left.invariant.1 c.loop-l
 
 pub returns-then-mask-location-eq1-clause-value : goal.returns-then-mask-location-eq1-clause-value
 returns-then-mask-location-eq1-clause-value c = let a =
-    visit _ _ _ _ _ _ _ _ c.loop-left.invariant.1 c.loop-left-test.true in
+    visit c.loop-left.invariant.1 c.loop-left-test.true in
     let w = c.args.self.now.wide in let w0 = w.0 in let w3 = w.3 in let room = a.whole.room in
     let at = a.seg in let l = c.requires.inside in
     let low = row_of c.args.self.now.masks _ c.args.location c.args.self.now.rowed.0
@@ -72,7 +72,7 @@ returns-then-mask-location-eq1-clause-value c = let a =
     c.word-mask.ensures.word low in
     let set = sym bit ∙ (sym (shr_and_one c.word-mask.result (c.args.location % 64))
     ∙ c.if-mask-location-eq1.true) in
-    let found = loaded _ _ _ _ _ _ _ (2 + c.args.self.now.masks + c.args.location) c.word.result _ a
+    let found = loaded (2 + c.args.self.now.masks + c.args.location) c.word.result a
     c.word-mask.new.seat mine' c.word.ensures.word
     (a.whole.values c.args.location (omega arith) set) in
     found ∙ sym (a.found set)
@@ -83,14 +83,14 @@ returns-then-mask-location-eq1-clause-same c = let i = c.loop-left.invariant.0 i
     (t.0 ∙ (s.0 ∙ i.0), t.1 ∙ (s.1 ∙ i.1), t.2 ∙ (s.2 ∙ i.2))
 
 pub overflow_add-at-in-loop-left : goal.overflow_add-at-in-loop-left
-overflow_add-at-in-loop-left c = let a = visit _ _ _ _ _ _ _ _ c.loop-left.invariant.1
+overflow_add-at-in-loop-left c = let a = visit c.loop-left.invariant.1
     c.loop-left-test.true in let w = c.args.self.now.wide in let w0 = w.0 in let w3 = w.3 in
     let room = a.whole.room in let at = a.seg in let l = c.requires.inside in
     let low = row_of c.args.self.now.masks _ c.args.location c.args.self.now.rowed.0
     c.requires.inside in omega arith
 
 pub word-at-requires : goal.word-at-requires
-word-at-requires c = let a = visit _ _ _ _ _ _ _ _ c.loop-left.invariant.1 c.loop-left-test.true in
+word-at-requires c = let a = visit c.loop-left.invariant.1 c.loop-left-test.true in
     let w = c.args.self.now.wide in let w0 = w.0 in let w3 = w.3 in let room = a.whole.room in
     let at = a.seg in let l = c.requires.inside in
     let low = row_of c.args.self.now.masks _ c.args.location c.args.self.now.rowed.0
@@ -107,7 +107,7 @@ word-at-requires c = let a = visit _ _ _ _ _ _ _ _ c.loop-left.invariant.1 c.loo
     }
 
 pub loop-left-preserved : goal.loop-left-preserved
-loop-left-preserved c = let a = visit _ _ _ _ _ _ _ _ c.loop-left.invariant.1
+loop-left-preserved c = let a = visit c.loop-left.invariant.1
     c.loop-left-test.true in let w = c.args.self.now.wide in let w0 = w.0 in let w3 = w.3 in
     let room = a.whole.room in let at = a.seg in let l = c.requires.inside in
     let low = row_of c.args.self.now.masks _ c.args.location c.args.self.now.rowed.0
@@ -118,7 +118,7 @@ loop-left-preserved c = let a = visit _ _ _ _ _ _ _ _ c.loop-left.invariant.1
     let mine' = chain_of c.args.seat.now c.word-mask.new.seat (s.2 ∙ i.2) in
     let bit = bit_loaded _ _ _ _ c.args.location _ _ c.word-mask.result _ a c.loop-left.seat mine
     c.word-mask.ensures.word low in
-    let up = loaded _ _ _ _ _ _ _ 1 c.word-at.result _ a c.word-mask.new.seat mine'
+    let up = loaded 1 c.word-at.result a c.word-mask.new.seat mine'
     c.word-at.ensures.word (a.whole.header 1 (omega arith) (omega arith)) in (
       (t.0 ∙ (s.0 ∙ i.0), t.1 ∙ (s.1 ∙ i.1), t.2 ∙ (s.2 ∙ i.2)),
       a.go (c.loop-left.left - 1) c.word-at.result (let h = c.loop-left-test.true in
@@ -131,7 +131,7 @@ pub returns-clause-value : goal.returns-clause-value
 returns-clause-value c = let read = get_or_read_under c.args.self.now.initial.items c.args.location
     c.args.self.now.initial.len c.index.result.now 0 c.index.ensures c.requires.inside
     (search rules) in
-    ended _ _ _ _ _ _ _ _ c.loop-left.invariant.1 (let h = c.loop-left-test.false in
+    ended c.loop-left.invariant.1 (let h = c.loop-left-test.false in
     omega arith) _ read
 
 pub returns-clause-same : goal.returns-clause-same

@@ -33,7 +33,7 @@ returns-clause-run g c =
     (all_rounds (map (λ l. triples l.items) c.as_slice.result.now))
     (ap (λ l. all_rounds (map (λ r. triples r.items) l)) c.as_slice.ensures.value
     ∙ (c.gather_all-all.ensures.rounds ∙ sym (ap (λ m. m.0.rounds) c.tell-witness.ensures.own.1)))
-    _ _ _ _ _ c.order-schedule.ensures.schedule c.order-schedule.ensures.forkers c.part-ends.ensures.ends
+    c.order-schedule.ensures.schedule c.order-schedule.ensures.forkers c.part-ends.ensures.ends
     c.part-ends.ensures.kept
     (λ n. ap (λ m. named n m.0.seat.passes) c.tell-witness.ensures.own.1 ∙ c.gather_all-all.ensures.passes n)
 
@@ -63,7 +63,7 @@ invariant_of-result g c =
           (all_rounds (map (λ l. triples l.items) c.as_slice.result.now))
           (ap (λ l. all_rounds (map (λ r. triples r.items) l)) c.as_slice.ensures.value
           ∙ (c.gather_all-all.ensures.rounds ∙ sym (ap (λ m. m.0.rounds) c.tell-witness.ensures.own.1)))
-          _ _ _ _ _ c.order-schedule.ensures.schedule c.order-schedule.ensures.forkers c.part-ends.ensures.ends
+          c.order-schedule.ensures.schedule c.order-schedule.ensures.forkers c.part-ends.ensures.ends
           c.part-ends.ensures.kept
           (λ n. ap (λ m. named n m.0.seat.passes) c.tell-witness.ensures.own.1 ∙ c.gather_all-all.ensures.passes n))
           (c.tell-witness.ensures.told

@@ -16,7 +16,7 @@ returns-clause-told g c =
     (sym c.take_out_desk.ensures.view)
     (subst
     (λ b. IsIn g.L.Revision.machine g.L.Revision.ends c.args.place.now.me.0 c.wait_turn.new.place.me.0 b.value) box
-    (in_taken _ _ _ _ _ t.1))
+    (in_taken _ _ t.1))
 
 pub returns-clause-mine : goal.returns-clause-mine
 returns-clause-mine g c = ap (λ v. v.mine) c.take_out_desk.ensures.view ∙ c.wait_turn.ensures.took.1.same.6

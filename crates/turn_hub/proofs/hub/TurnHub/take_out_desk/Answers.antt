@@ -14,7 +14,7 @@ into_home-requires g c =
     subst (λ s. has_desk s ≡ true) (same_out _ _ _ c.requires.home.1 c.exchange.ensures.2) refl
 
 pub returns-clause-own : goal.returns-clause-own
-returns-clause-own g c = (c.exchange.ensures.0, put_in _ _ _ _ _ c.exchange.ensures.3 c.requires.home.1)
+returns-clause-own g c = (c.exchange.ensures.0, put_in c.exchange.ensures.3 c.requires.home.1)
 
 pub returns-clause-view : goal.returns-clause-view
 returns-clause-view g c = ap (λ m. m.0) c.exchange.ensures.3
