@@ -1,6 +1,7 @@
 //! Calls and returns.
 
-ghost use Rattle.std.specs.Prelude.{◌≡◌, ◌<◌, ◌≤◌, ◌+◌, ◌-◌, ◌^◌, ◌++◌, ℕ, IfOk, Option};
+ghost use Rattle.std.specs.Prelude.{◌≡◌, ◌<◌, ◌≤◌, ◌+◌, ◌-◌, ◌^◌, ◌++◌};
+ghost use Rattle.std.specs.Prelude.{ℕ, IfOk, Option};
 ghost use Rattle.std.specs.Prelude.{Some, drop, length, replicate, slice_get, take};
 ghost use Rattle.rev_code.specs.declared.code.Instr.TheVariants as i;
 ghost use Rattle.rev_code.specs.State.{State};

@@ -70,8 +70,8 @@ fn turn_at<P: Snapshot>(
     }
 }
 
-/// Does instructions of a block, and then the one that leaves it, or ends the leg there; with `NOTING`
-/// and notes that are on it notes what they read.
+/// Does instructions of a block, and then the one that leaves it, or ends the leg there; with
+/// `NOTING` and notes that are on it notes what they read.
 fn go_on<P: Snapshot, const NOTING: bool>(
     setting: &CodeSetting,
     memory: &mut Memory<P>,
@@ -112,10 +112,10 @@ fn go_on<P: Snapshot, const NOTING: bool>(
     }
 }
 
-/// Does the instructions of a leg up to its event. With `NOTING` it notes what they read where notes
-/// are on, and without it notes nothing: so the compiler makes a loop of each case, and that of a leg
-/// without notes looks at none. The error is want of memory, after which nothing is said of where the
-/// revision stands, and nothing of the notes.
+/// Does the instructions of a leg up to its event. With `NOTING` it notes what they read where
+/// notes are on, and without it notes nothing: so the compiler makes a loop of each case, and that
+/// of a leg without notes looks at none. The error is want of memory, after which nothing is said of
+/// where the revision stands, and nothing of the notes.
 pub fn run<P: Snapshot, const NOTING: bool>(
     setting: &CodeSetting,
     revision: &mut RunningRevision<P>,

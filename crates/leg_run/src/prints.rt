@@ -1,6 +1,7 @@
 //! Prints.
 
-ghost use Rattle.std.specs.Prelude.{◌≡◌, ◌<◌, ◌≤◌, ◌+◌, ◌-◌, ◌^◌, ◌++◌, [], ℕ, IfOk, List};
+ghost use Rattle.std.specs.Prelude.{◌≡◌, ◌<◌, ◌≤◌, ◌+◌, ◌-◌, ◌^◌, ◌++◌};
+ghost use Rattle.std.specs.Prelude.{[], ℕ, IfOk, List};
 ghost use Rattle.std.specs.Prelude.{Option, Some, length, slice_get, slice_index_or};
 ghost use Rattle.rev_code.specs.declared.code.Instr.TheVariants as i;
 ghost use Rattle.rev_code.specs.State.{State};
