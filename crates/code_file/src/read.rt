@@ -10,7 +10,7 @@ ghost use Rattle.code_file.specs.Reads as reads;
 use crate::cursor::Cursor;
 use crate::fault::ReadFault;
 use crate::values::{are_cells, class_of, flag_of, is_merge, kind_of, result_of};
-use code_tables::{is_name, is_start, is_text};
+use code_rules::{is_name, is_start, is_text};
 use rev_code::{BlockClass, CodeBlock, CodeVar, Instr, LayoutItem};
 use rev_num::{Bytes, Items, ValueKind, int_of_word};
 use std::alloc::Global;

@@ -4,7 +4,7 @@ ghost use Rattle.std.specs.Prelude.{◌≡◌};
 ghost use Rattle.code_file.specs.Parts as part;
 
 use crate::version::Version;
-use code_tables::has_cells;
+use code_rules::has_cells;
 use rev_code::BlockClass;
 use rev_num::ValueKind;
 

@@ -1,8 +1,14 @@
-//! The rules that code keeps.
+//! The rules that code keeps, and those on its tables decided.
 //!
 //! `specs/Tables.antt` has the rules on tables, `specs/Shapes.antt` what each instruction takes and
 //! gives, `specs/Pass.antt` the rules on instructions, as one pass that finds the first fault.
 #![tactic(auto)]
+
+mod classes;
+mod tables;
+
+pub use classes::{is_procedure, is_value_class};
+pub use tables::{has_cells, is_name, is_small, is_start, is_text, names_well};
 
 /// A rule on code. Where an instruction breaks several, the one that comes first here is reported.
 #[derive(Clone, Copy)]
@@ -42,6 +48,3 @@ pub struct Fault {
     pub at: usize,
     pub rule: Rule,
 }
-
-/// Holds the place of the crate's functions, of which it needs none.
-pub fn theory() {}

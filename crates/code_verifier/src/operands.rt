@@ -8,7 +8,7 @@ ghost use Rattle.code_rules.specs.Pass as pass;
 ghost use Rattle.code_verifier.specs.ShapesByNumber.{first};
 
 use crate::instr::{is_fun, is_pure};
-use code_tables::{is_procedure, is_value_class};
+use code_rules::{is_procedure, is_value_class};
 use rev_code::{Code, CodeBlock, CodeVar, Instr, LayoutItem};
 use rev_num::{Items, ValueKind};
 use std::alloc::{AllocError, Global};

@@ -14,7 +14,7 @@ use crate::shapes::Shapes;
 use crate::spent::{Spent, applied, is_over_limit, with_one};
 use crate::stack::{Effect, effect_of};
 use code_rules::{Cost, Rule};
-use code_tables::is_value_class;
+use code_rules::is_value_class;
 use rev_code::{Code, CodeBlock, Instr};
 use std::alloc::{AllocError, Global};
 

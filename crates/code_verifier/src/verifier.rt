@@ -10,7 +10,7 @@ use crate::fault::CodeFault;
 use crate::pass::{Scope, check_block};
 use crate::verified::Verified;
 use code_rules::{Fault, Rule};
-use code_tables::{is_small, names_well};
+use code_rules::{is_small, names_well};
 use rev_code::Code;
 use std::alloc::{AllocError, Global};
 

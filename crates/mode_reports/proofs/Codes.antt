@@ -15,8 +15,8 @@ use Rattle.code_file.proofs.EachRead.{each_read}
 use Rattle.code_verifier.specs.Verdicts.{IsRefusal, KeepsRules, fault_of}
 use Rattle.code_verifier.specs.declared.fault.CodeFault.{CodeFault}
 use Rattle.code_verifier.specs.declared.fault.CodeFault.TheVariants as code
-use Rattle.rev_messages.specs.Refusals.{status_of}
-use Rattle.rev_messages.specs.declared.refusal.Refusal.{Refusal}
+use Rattle.rev_report.specs.Refusals.{status_of}
+use Rattle.rev_report.specs.declared.refusal.Refusal.{Refusal}
 use Rattle.mode_reports.specs.Codes.{ChecksCode, KeepsCodeRules, ReadsFile, report_of_code, report_of_file}
 use Rattle.mode_reports.specs.Stages.{Onward, Reports, Then}
 use Rattle.mode_reports.specs.Stops.{Meets, stop_of}

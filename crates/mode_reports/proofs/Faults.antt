@@ -27,10 +27,10 @@ use Rattle.rev_report.specs.declared.limit.Limit.TheVariants as limits
 use Rattle.typed_programs.specs.Program as program
 use Rattle.rev_types.specs.Tables as tables
 use Rattle.rev_types.proofs.OwnLimits.{own_limits}
-use Rattle.rev_messages.specs.declared.fault.TextFault.TheVariants as fault
-use Rattle.rev_messages.specs.declared.refusal.Refusal.{Refusal}
-use Rattle.rev_messages.specs.declared.refusal.Refusal.TheVariants as refusals
-use Rattle.rev_messages.specs.Refusals.{status_of}
+use Rattle.rev_report.specs.declared.fault.TextFault.TheVariants as fault
+use Rattle.rev_report.specs.declared.refusal.Refusal.{Refusal}
+use Rattle.rev_report.specs.declared.refusal.Refusal.TheVariants as refusals
+use Rattle.rev_report.specs.Refusals.{status_of}
 use Rattle.static_rules.specs.Funs.{IsFirstBrokenFun}
 use Rattle.static_rules.specs.Breaks.{IsFirstBroken}
 use Rattle.static_rules.proofs.FunFaults.{same_first_fun}

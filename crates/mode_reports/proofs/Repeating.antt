@@ -12,7 +12,7 @@ use Rattle.rev_record.specs.declared.repeats.RepeatedRun.{RepeatedRun}
 use Rattle.rev_record.specs.Memos.{IsMemoOf, Reuses}
 use Rattle.rev_record.specs.declared.memo.Memo.{Memo}
 use Rattle.revision_calculus.specs.Complete.{HasOutcome}
-use Rattle.memo_runs.specs.MemoLaws.{MemoIn, ReusedIn}
+use Rattle.rev_record.specs.MemoLaws.{MemoIn, ReusedIn}
 use Rattle.mode_reports.specs.Answer.{code_run, code_run_before, setting}
 use Rattle.mode_reports.proofs.CodeRuns.{Runs, ran}
 

@@ -6,9 +6,9 @@ use Rattle.rev_words.specs.declared.Words.{Words}
 use Rattle.rev_report.specs.Outcome.{report}
 use Rattle.rev_report.specs.Report.{Output, output}
 use Rattle.rev_syntax.specs.Trees.{ProgramTree}
-use Rattle.rev_messages.specs.Refusals.{status_of}
-use Rattle.rev_messages.specs.declared.refusal.Refusal.{Refusal}
-use Rattle.rev_messages.specs.declared.refusal.Refusal.TheVariants as refusals
+use Rattle.rev_report.specs.Refusals.{status_of}
+use Rattle.rev_report.specs.declared.refusal.Refusal.{Refusal}
+use Rattle.rev_report.specs.declared.refusal.Refusal.TheVariants as refusals
 use Rattle.revision_calculus.specs.Kinded.{IsAccepted}
 use Rattle.revision_machine.specs.Numbered.{World}
 use Rattle.rev_code.specs.declared.code.Code.{Code}

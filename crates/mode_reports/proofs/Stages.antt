@@ -1,7 +1,7 @@
 -- One stage after another.
 use Rattle.std.proofs.Common.{◌≡◌, ◌≢◌, ◌∙◌, refl, sym, subst, ap}
 use Rattle.std.specs.Prelude.{Option, Some, None, Result, Ok, Err, IsErrAnd}
-use Rattle.rev_messages.specs.declared.refusal.Refusal.{Refusal}
+use Rattle.rev_report.specs.declared.refusal.Refusal.{Refusal}
 use Rattle.mode_reports.specs.Stages.{Onward, Reports, Then}
 use Rattle.mode_reports.specs.Stops.{Meets, stop_of}
 use Rattle.mode_reports.specs.declared.stop.Stop.{Stop}

@@ -5,9 +5,9 @@
 use Rattle.std.specs.Prelude.{ℕ, ◌≡◌, List, Option, Some, None, Result, Ok, Err}
 use Rattle.rev_syntax.specs.Trees.{ProgramTree}
 use Rattle.affine_check.specs.Affine.{Breach, copied, stored, used_twice, in_loop, Breakage, IsAffine, IsFirstBroken}
-use Rattle.rev_messages.specs.declared.fault.TextFault.{TextFault}
-use Rattle.rev_messages.specs.declared.fault.TextFault.TheVariants as fault
-use Rattle.rev_messages.specs.declared.refusal.Refusal.{Refusal}
+use Rattle.rev_report.specs.declared.fault.TextFault.{TextFault}
+use Rattle.rev_report.specs.declared.fault.TextFault.TheVariants as fault
+use Rattle.rev_report.specs.declared.refusal.Refusal.{Refusal}
 use Rattle.affine_check.specs.declared.fault.AffineFault.{AffineFault}
 use Rattle.affine_check.specs.declared.fault.AffineFault.TheVariants as affine
 use Rattle.mode_reports.specs.Stages.{Then}

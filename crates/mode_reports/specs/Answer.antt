@@ -15,15 +15,15 @@ use Rattle.rev_words.specs.declared.Mode.TheVariants as modes
 use Rattle.rev_words.specs.declared.Words.{Words}
 use Rattle.rev_report.specs.Report.{Output, done}
 use Rattle.rev_report.specs.Outcome.{report}
-use Rattle.rev_messages.specs.Modes.{accepted, ordered, reused, summary, traced}
-use Rattle.rev_messages.specs.declared.refusal.Refusal.{Refusal}
-use Rattle.rev_messages.specs.declared.refusal.Refusal.TheVariants as refusals
+use Rattle.rev_report.specs.Modes.{accepted, ordered, reused, summary, traced}
+use Rattle.rev_report.specs.declared.refusal.Refusal.{Refusal}
+use Rattle.rev_report.specs.declared.refusal.Refusal.TheVariants as refusals
 use Rattle.rev_code.specs.declared.code.Code.{Code}
 use Rattle.revision_machine.specs.Numbered.{World}
 use Rattle.code_machine.specs.Local.{CodeRun, Local}
 use Rattle.code_machine_laws.specs.Outcomes.{IsCompleteRun, HasOutcome as HasCodeOutcome}
 use Rattle.code_memos.specs.Leaf.{Known}
-use Rattle.memo_runs.specs.MemoLaws.{MemoIn, ReusedIn}
+use Rattle.rev_record.specs.MemoLaws.{MemoIn, ReusedIn}
 use Rattle.code_file.specs.Files.{file_of}
 use Rattle.code_generation.specs.Generated.{code_of}
 use Rattle.code_listing.specs.Listing.{listing}

@@ -11,10 +11,10 @@ use Rattle.code_file.specs.declared.fault.ReadFault.TheVariants as read
 use Rattle.code_verifier.specs.Verdicts.{IsRefusal, KeepsRules}
 use Rattle.code_verifier.specs.declared.fault.CodeFault.{CodeFault}
 use Rattle.code_verifier.specs.declared.fault.CodeFault.TheVariants as code
-use Rattle.rev_messages.specs.declared.code_fault.FileFault.TheVariants as file
-use Rattle.rev_messages.specs.declared.code_fault.InstructionFault.TheVariants as instruction
-use Rattle.rev_messages.specs.declared.refusal.Refusal.{Refusal}
-use Rattle.rev_messages.specs.declared.refusal.Refusal.TheVariants as refusals
+use Rattle.rev_report.specs.declared.code_fault.FileFault.TheVariants as file
+use Rattle.rev_report.specs.declared.code_fault.InstructionFault.TheVariants as instruction
+use Rattle.rev_report.specs.declared.refusal.Refusal.{Refusal}
+use Rattle.rev_report.specs.declared.refusal.Refusal.TheVariants as refusals
 use Rattle.mode_reports.specs.Stages.{Reports, Then}
 
 -- ---- how faults are reported; want of memory is no fault of a file or of code

@@ -5,8 +5,8 @@ use Rattle.code_machine.specs.Local.{CodeRun, Local}
 use Rattle.world_runs.specs.Replay.{IsIllegal, Replayed}
 use Rattle.world_runs.specs.declared.replaying.ReplayFault.{ReplayFault}
 use Rattle.world_runs.specs.declared.replaying.ReplayFault.TheVariants as faults
-use Rattle.rev_messages.specs.declared.refusal.Refusal.{Refusal}
-use Rattle.rev_messages.specs.declared.refusal.Refusal.TheVariants as refusals
+use Rattle.rev_report.specs.declared.refusal.Refusal.{Refusal}
+use Rattle.rev_report.specs.declared.refusal.Refusal.TheVariants as refusals
 use Rattle.mode_reports.specs.Stages.{Reports}
 
 -- want of memory is no fault of a schedule

@@ -1,6 +1,6 @@
 -- Stages: each has a value or a refusal, and the next goes on with the value.
 use Rattle.std.specs.Prelude.{◌≡◌, Option, Some, Result, Ok, Err}
-use Rattle.rev_messages.specs.declared.refusal.Refusal.{Refusal}
+use Rattle.rev_report.specs.declared.refusal.Refusal.{Refusal}
 
 -- a value goes on, and a refusal is the answer
 abbrev pub Onward : {X Y : Type 0} → (X → Result Y Refusal → Type 0) → Result X Refusal → Result Y Refusal → Type 0

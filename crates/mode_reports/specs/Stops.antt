@@ -4,11 +4,11 @@ use Rattle.rev_io.specs.declared.ReadText.{ReadText}
 use Rattle.rev_io.specs.declared.ReadText.TheVariants as text
 use Rattle.rev_words.specs.declared.fault.WordsFault.{WordsFault}
 use Rattle.rev_words.specs.declared.fault.WordsFault.TheVariants as words
-use Rattle.rev_messages.specs.declared.refusal.Refusal.{Refusal}
-use Rattle.rev_messages.specs.declared.refusal.Refusal.TheVariants as refusals
+use Rattle.rev_report.specs.declared.refusal.Refusal.{Refusal}
+use Rattle.rev_report.specs.declared.refusal.Refusal.TheVariants as refusals
 use Rattle.rev_parse.specs.declared.whole.SyntaxFault.{SyntaxFault}
 use Rattle.rev_parse.specs.declared.whole.SyntaxFault.TheVariants as syntax
-use Rattle.rev_messages.specs.declared.fault.TextFault.TheVariants as fault
+use Rattle.rev_report.specs.declared.fault.TextFault.TheVariants as fault
 use Rattle.mode_reports.specs.Texts.{fault_at, unexpected_at}
 use Rattle.mode_reports.specs.declared.stop.Stop.{Stop}
 use Rattle.mode_reports.specs.declared.stop.Stop.TheVariants as stops

@@ -16,11 +16,11 @@ use Rattle.typed_programs.specs.declared.fault.TypeFault.{TypeFault}
 use Rattle.typed_programs.specs.declared.fault.TypeFault.TheVariants as type
 use Rattle.static_rules.specs.Funs.{IsFirstBrokenFun, KeepsFunRules}
 use Rattle.static_rules.specs.Breaks.{BreaksNone, IsFirstBroken}
-use Rattle.rev_messages.specs.declared.fault.Place.{Place}
-use Rattle.rev_messages.specs.declared.fault.TextFault.{TextFault}
-use Rattle.rev_messages.specs.declared.fault.TextFault.TheVariants as fault
-use Rattle.rev_messages.specs.declared.refusal.Refusal.{Refusal}
-use Rattle.rev_messages.specs.declared.refusal.Refusal.TheVariants as refusals
+use Rattle.rev_report.specs.declared.fault.Place.{Place}
+use Rattle.rev_report.specs.declared.fault.TextFault.{TextFault}
+use Rattle.rev_report.specs.declared.fault.TextFault.TheVariants as fault
+use Rattle.rev_report.specs.declared.refusal.Refusal.{Refusal}
+use Rattle.rev_report.specs.declared.refusal.Refusal.TheVariants as refusals
 use Rattle.mode_reports.specs.Stages.{Reports, Then}
 
 -- ---- how faults are reported; want of memory is no fault of a text

@@ -1,8 +1,8 @@
 -- The trace of a program's runs, and what an audit makes of a source: the text of a program with a trace behind it.
 use Rattle.std.specs.Prelude.{◌≡◌, ◌≤◌, ◌<◌, ℕ, List, [], length, Option, Some, None, Result, Ok, Err}
-use Rattle.rev_messages.specs.Modes.{agreed}
-use Rattle.rev_messages.specs.declared.refusal.Refusal.{Refusal}
-use Rattle.rev_messages.specs.declared.refusal.Refusal.TheVariants as refusals
+use Rattle.rev_report.specs.Modes.{agreed}
+use Rattle.rev_report.specs.declared.refusal.Refusal.{Refusal}
+use Rattle.rev_report.specs.declared.refusal.Refusal.TheVariants as refusals
 use Rattle.rev_parse.specs.SmallTree.{most_bytes}
 use Rattle.rev_report.specs.Report.{Output}
 use Rattle.revision_calculus.specs.Program.{Setting}

@@ -13,7 +13,7 @@ use crate::stop::Stop;
 use crate::text::checked;
 use audit_rules::Verdict;
 use rev_audit::audit as audit_trace;
-use rev_messages::{Refusal, agreed_report};
+use rev_report::{Refusal, agreed_report};
 use rev_report::Report;
 use rev_words::{Mode, Words};
 use std::alloc::Global;

@@ -11,7 +11,7 @@ use crate::stop::Stop;
 use crate::text::checked;
 use code_listing::disassemble;
 use code_verifier::Verified;
-use rev_messages::{accepted_report, done_report};
+use rev_report::{accepted_report, done_report};
 use rev_report::Report;
 use rev_words::{Mode, Words};
 use std::alloc::Global;

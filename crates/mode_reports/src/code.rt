@@ -4,13 +4,13 @@ ghost use Rattle.mode_reports.specs.Codes.{ChecksCode, KeepsCodeRules, ReadsFile
 ghost use Rattle.mode_reports.specs.Codes.{report_of_code, report_of_file};
 ghost use Rattle.mode_reports.specs.Stops.{Meets, stop_of};
 ghost use Rattle.mode_reports.specs.declared.stop.Stop.TheVariants as stops;
-ghost use Rattle.rev_messages.specs.declared.refusal.Refusal.TheVariants as refusals;
+ghost use Rattle.rev_report.specs.declared.refusal.Refusal.TheVariants as refusals;
 
 use crate::stop::Stop;
 use code_file::{ReadFault, file_laws, read_code};
 use code_verifier::{CodeFault, Verified, verify};
 use rev_code::Code;
-use rev_messages::{FileFault, InstructionFault, Refusal};
+use rev_report::{FileFault, InstructionFault, Refusal};
 use std::alloc::Global;
 
 fn at_byte(at: usize, fault: FileFault) -> Stop

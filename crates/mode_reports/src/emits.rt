@@ -10,7 +10,7 @@ use crate::stop::Stop;
 use crate::text::checked;
 use code_file::write_code;
 use codegen::generate;
-use rev_messages::done_report;
+use rev_report::done_report;
 use rev_report::Report;
 use rev_words::Mode;
 use std::alloc::Global;

@@ -11,7 +11,7 @@ use crate::stop::Stop;
 use crate::text::checked;
 use code_runs::replay_code;
 use codegen::generate;
-use rev_messages::Refusal;
+use rev_report::Refusal;
 use rev_report::{Report, outcome_bytes};
 use rev_words::{Mode, Words};
 use std::alloc::Global;

@@ -4,7 +4,7 @@ ghost use Rattle.mode_reports.specs.declared.stop.Stop.TheVariants as stops;
 ghost use Rattle.mode_reports.specs.Stops.{stop_of_reading, stop_of_words};
 
 use rev_io::ReadText;
-use rev_messages::Refusal;
+use rev_report::Refusal;
 use rev_words::WordsFault;
 use std::alloc::AllocError;
 

@@ -12,7 +12,7 @@ ghost use Rattle.mode_reports.specs.declared.stop.Stop.TheVariants as stops;
 
 use crate::stop::Stop;
 use merge_decl::expand_funs;
-use rev_messages::{Place, Refusal, TextFault};
+use rev_report::{Place, Refusal, TextFault};
 use rev_parse::{SyntaxFault, parse};
 use rev_syntax::{LexFault, Program, Token, line_column, tokens};
 use rev_types::check;

@@ -13,7 +13,7 @@ use crate::stop::Stop;
 use crate::text::checked;
 use code_traces::{TracedRun, trace_code};
 use codegen::generate;
-use rev_messages::trace_report;
+use rev_report::trace_report;
 use rev_report::Report;
 use rev_words::{Mode, Words};
 use std::alloc::{AllocError, Global};

@@ -1,4 +1,4 @@
--- The grammar of expressions. Each rule is a form; what a form derives is said in `token_grammar`.
+-- The grammar of expressions. Each rule is a form; what a form derives is said in `Form.antt`.
 use Rattle.std.specs.Prelude.{ℕ, Bool, true, false, List, [], ◌∷◌}
 use Rattle.rev_syntax.specs.Trees as t
 use Rattle.rev_syntax.specs.Trees.{PlacedName, Expression, Parameter, ArraySize, Statements}

@@ -1,7 +1,7 @@
 //! The grammar of the language, the tokens that a parser has left, and the parser of expressions.
 //!
 //! `specs/Grammar.antt`, `specs/Statements.antt` and `specs/Declarations.antt` have the grammar,
-//! rule by rule, as forms, and the crate `token_grammar` says what a form derives.
+//! rule by rule, as forms, and `specs/Form.antt` says what a form derives.
 //! `specs/Parse.antt` is the parser of a form, with which each parsing function agrees, here and in
 //! the crate above that parses statements and declarations.
 #![tactic(auto)]

@@ -12,9 +12,9 @@ use Rattle.code_world.specs.declared.world.World.TheVariants as world
 use Rattle.code_world.specs.Tables.{IsWorld}
 use Rattle.code_runs.specs.Completed.{IsAfter}
 use Rattle.world_runs.specs.Finish.{HasFinished}
-use Rattle.memo_runs.specs.SoFar.{none_in_twice}
-use Rattle.memo_runs.proofs.Keeping.{recorded_at_start, recorded_at_end, counted_at_start, counted_at_end}
-use Rattle.leaf_entries.specs.declared.entry.LeafEntry.{LeafEntry}
+use Rattle.rev_record.specs.SoFar.{none_in_twice}
+use Rattle.rev_record.proofs.Keeping.{recorded_at_start, recorded_at_end, counted_at_start, counted_at_end}
+use Rattle.rev_record.specs.declared.entry.LeafEntry.{LeafEntry}
 use Rattle.rev_record.specs.Entries.{paths, AreKnown}
 use Rattle.rev_record.specs.declared.memo.Memo.{Memo}
 use Rattle.rev_record.specs.Memos.{IsMemoOf, Reuses, kept_in, counted_in}

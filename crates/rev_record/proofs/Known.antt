@@ -15,8 +15,8 @@ use Rattle.code_machine.specs.Machines.{IsMain}
 use Rattle.code_memos.specs.Leaf.{Known}
 use Rattle.code_memos.specs.Memo.{IsAmong, paths_of as entry_paths}
 use Rattle.code_memos.specs.ByNumber.{KnownFor}
-use Rattle.leaf_entries.specs.declared.entry.LeafEntry.{LeafEntry}
-use Rattle.leaf_entries.specs.Standing.{StandsFor}
+use Rattle.rev_record.specs.declared.entry.LeafEntry.{LeafEntry}
+use Rattle.rev_record.specs.Standing.{StandsFor}
 use Rattle.rev_record.specs.Entries.{paths, AreKnown}
 
 -- ---- paths

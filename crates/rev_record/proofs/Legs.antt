@@ -6,8 +6,8 @@ use Rattle.rev_code.specs.Words.{Word}
 use Rattle.block_run.specs.Area.{count}
 use Rattle.code_soundness.specs.Typed.{location_kinds}
 use Rattle.rev_vm.proofs.Firsts.{kinds_many}
-use Rattle.leaf_entries.specs.Begins.{AreWordsAt, BeginsAt}
-use Rattle.leaf_entries.proofs.Beginning.{fresh_begins}
+use Rattle.rev_record.specs.Begins.{AreWordsAt, BeginsAt}
+use Rattle.rev_record.proofs.Beginning.{fresh_begins}
 use Rattle.rev_num.proofs.Options.{none_some, some_eq}
 use Rattle.rev_code.specs.State.{State}
 use Rattle.rev_code.specs.Step.{joins}
@@ -33,7 +33,7 @@ use Rattle.code_world.specs.Tables.{IsWorld}
 use Rattle.code_world.proofs.Rows.{slot_at}
 use Rattle.code_machine_laws.specs.Reached.{IsReached}
 use Rattle.world_runs.specs.KeptByLegs.{KeepsOn}
-use Rattle.memo_runs.specs.SoFar.{LeafLeg}
+use Rattle.rev_record.specs.SoFar.{LeafLeg}
 use Rattle.rev_record.specs.Legs.{IsFrom, StandsFresh}
 
 pub reached_from : (g : CodeRun) (fuel : ℕ) (w : World (Local ℕ)) → IsFrom g fuel w → IsReached g w

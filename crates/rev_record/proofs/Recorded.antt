@@ -32,15 +32,15 @@ use Rattle.leg_run.specs.Marks.{marks_of, HasMarked}
 use Rattle.code_machine_laws.specs.LegReads.{leg_reads}
 use Rattle.version_map.specs.Deltas.{locations}
 use Rattle.code_world.specs.Between.{HasReadOf, HasReadIn}
-use Rattle.leaf_entries.specs.Told.{IsBlank}
+use Rattle.rev_record.specs.Told.{IsBlank}
 use Rattle.world_runs.specs.KeptByLegs.{KeepsOn}
-use Rattle.memo_runs.proofs.Keeping.{not_over}
-use Rattle.memo_runs.specs.SoFar.{LeafLeg}
-use Rattle.memo_runs.proofs.Leaves.{one_row, leaf_there, ended_over, ended_goes, leaf_leg}
-use Rattle.memo_runs.proofs.Keeping.{recorded_without, recorded_with}
-use Rattle.leaf_entries.specs.declared.entry.LeafEntry.{LeafEntry}
-use Rattle.leaf_entries.specs.Laws.{HasLeafEntry}
-use Rattle.leaf_entries.proofs.Telling.{leaf_is_told}
+use Rattle.rev_record.proofs.Keeping.{not_over}
+use Rattle.rev_record.specs.SoFar.{LeafLeg}
+use Rattle.rev_record.proofs.Leaves.{one_row, leaf_there, ended_over, ended_goes, leaf_leg}
+use Rattle.rev_record.proofs.Keeping.{recorded_without, recorded_with}
+use Rattle.rev_record.specs.declared.entry.LeafEntry.{LeafEntry}
+use Rattle.rev_record.specs.EntryLaws.{HasLeafEntry}
+use Rattle.rev_record.proofs.Telling.{leaf_is_told}
 use Rattle.rev_record.specs.Entries.{AreKnown}
 use Rattle.rev_record.specs.Legs.{IsFrom, IsRecorded, WasNoted, is_leaf, HasKept}
 use Rattle.rev_record.proofs.Known.{known_push}

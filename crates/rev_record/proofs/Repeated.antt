@@ -30,11 +30,11 @@ use Rattle.code_world.specs.declared.table.Birth.{Birth}
 use Rattle.code_machine_laws.proofs.Reaching.{small}
 use Rattle.code_world.specs.Tables.{IsWorld}
 use Rattle.world_runs.specs.KeptByLegs.{KeepsOn}
-use Rattle.memo_runs.specs.SoFar.{LeafLeg}
-use Rattle.memo_runs.proofs.Leaves.{one_row, adopted_is_leaf}
-use Rattle.memo_runs.proofs.Keeping.{counted_without, counted_with}
-use Rattle.leaf_entries.specs.declared.entry.LeafEntry.{LeafEntry}
-use Rattle.leaf_entries.proofs.Adopting.{adopts_so}
+use Rattle.rev_record.specs.SoFar.{LeafLeg}
+use Rattle.rev_record.proofs.Leaves.{one_row, adopted_is_leaf}
+use Rattle.rev_record.proofs.Keeping.{counted_without, counted_with}
+use Rattle.rev_record.specs.declared.entry.LeafEntry.{LeafEntry}
+use Rattle.rev_record.proofs.Adopting.{adopts_so}
 use Rattle.rev_record.specs.Entries.{paths, AreKnown}
 use Rattle.rev_record.specs.Legs.{IsFrom, IsRepeated, StandsFresh, IsTaken}
 use Rattle.rev_record.proofs.Known.{known_paths, KnownAt, path_place, known_at, path_among, one_known, found}

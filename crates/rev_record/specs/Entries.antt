@@ -6,8 +6,8 @@ use Rattle.rev_num.specs.Path.{Path}
 use Rattle.rev_code.specs.declared.code.Code.{Code}
 use Rattle.code_memos.specs.Leaf.{Known}
 use Rattle.code_memos.specs.ByNumber.{KnownFor}
-use Rattle.leaf_entries.specs.declared.entry.LeafEntry.{LeafEntry}
-use Rattle.leaf_entries.specs.Standing.{StandsFor}
+use Rattle.rev_record.specs.declared.entry.LeafEntry.{LeafEntry}
+use Rattle.rev_record.specs.Standing.{StandsFor}
 
 abbrev pub paths : List LeafEntry → List Path
 paths [] = []

@@ -33,10 +33,10 @@ use Rattle.code_world.specs.Adopted.{EndsSo}
 use Rattle.code_world.specs.Answers.{LegAnswers}
 use Rattle.code_world.specs.Beginnings.{IsBegun}
 use Rattle.code_world.specs.Meetings.{HasNoted}
-use Rattle.memo_runs.specs.SoFar.{LeafLeg, IsRecordedSoFar, IsCountedSoFar}
-use Rattle.leaf_entries.specs.declared.entry.LeafEntry.{LeafEntry}
-use Rattle.leaf_entries.specs.Standing.{StandsFor}
-use Rattle.leaf_entries.specs.Told.{IsBlank}
+use Rattle.rev_record.specs.SoFar.{LeafLeg, IsRecordedSoFar, IsCountedSoFar}
+use Rattle.rev_record.specs.declared.entry.LeafEntry.{LeafEntry}
+use Rattle.rev_record.specs.Standing.{StandsFor}
+use Rattle.rev_record.specs.Told.{IsBlank}
 use Rattle.rev_record.specs.Entries.{AreKnown}
 
 pub record IsFrom (g : CodeRun) (fuel : ℕ) (w : World (Local ℕ)) : Type 0 where

@@ -3,3 +3,11 @@
 pub mod Entries
 pub mod Memos
 pub mod Legs
+pub mod Standing
+pub mod Begins
+pub mod Told
+pub mod EntryLaws
+pub mod Words
+pub mod SoFar
+pub mod RunLaws
+pub mod MemoLaws

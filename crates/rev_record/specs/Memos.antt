@@ -12,7 +12,7 @@ use Rattle.code_memos.specs.Leaf.{Known}
 use Rattle.code_memos.specs.ByNumber.{HasMemo, HasReused}
 use Rattle.code_world.specs.declared.world.World as rust
 use Rattle.code_world.specs.declared.world.World.TheVariants as world
-use Rattle.leaf_entries.specs.declared.entry.LeafEntry.{LeafEntry}
+use Rattle.rev_record.specs.declared.entry.LeafEntry.{LeafEntry}
 use Rattle.rev_record.specs.declared.memo.Memo.{Memo}
 use Rattle.rev_record.specs.Entries.{AreKnown}
 

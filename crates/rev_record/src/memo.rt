@@ -7,7 +7,7 @@ ghost use Rattle.revision_machine.specs.PathIndex.{indexed_prop, place_by};
 ghost use Rattle.revision_machine.specs.RevisionList.{distinct_prop};
 ghost use Rattle.rev_record.specs.Entries.{paths};
 
-use leaf_entries::LeafEntry;
+use crate::LeafEntry;
 use rev_num::Path;
 use std::alloc::{AllocError, Global};
 use std::collections::BTreeMap;

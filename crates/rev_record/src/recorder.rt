@@ -12,13 +12,13 @@ ghost use Rattle.code_machine_laws.specs.Reached.{IsReached};
 ghost use Rattle.revision_machine.specs.Numbered.{Entries, Listing, World as DefinedWorld};
 ghost use Rattle.rev_vm.specs.Starts.{run_under};
 ghost use Rattle.version_map.specs.Deltas.{locations};
-ghost use Rattle.leaf_entries.specs.Told.{IsBlank};
+ghost use Rattle.rev_record.specs.Told.{IsBlank};
 ghost use Rattle.world_runs.specs.KeptByLegs.{KeepsOn};
 ghost use Rattle.rev_record.specs.Legs.{HasKept, IsFrom, IsRecorded, WasNoted};
 ghost use Rattle.rev_record.specs.Legs.{is_leaf as defined_leaf};
 
 use code_world::{FreshStart, LegAnswer, NotedLeg, World, fresh, leg, leg_noting};
-use leaf_entries::{LeafEntry, blank, make_entry};
+use crate::{LeafEntry, blank, make_entry};
 use leg_run::{CodeSetting, ReadMarks};
 use std::alloc::{AllocError, Global};
 use version_map::MergeBy;

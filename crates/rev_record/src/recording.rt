@@ -13,7 +13,7 @@ ghost use Rattle.rev_record.specs.Memos.{IsMemoOf, kept_in};
 use crate::memo::Memo;
 use crate::recorder::Recorder;
 use code_world::World;
-use leaf_entries::LeafEntry;
+use crate::LeafEntry;
 use leg_run::CodeSetting;
 use std::alloc::{AllocError, Global};
 use version_map::MergeBy;

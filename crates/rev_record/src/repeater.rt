@@ -18,7 +18,7 @@ ghost use Rattle.rev_record.specs.Memos.{HasEntries};
 use crate::memo::Memo;
 use code_runs::path_of;
 use code_world::{FreshStart, LegAnswer, World, adopt, fresh, leg};
-use leaf_entries::{end_over, is_valid};
+use crate::{end_over, is_valid};
 use leg_run::CodeSetting;
 use std::alloc::{AllocError, Global};
 use version_map::{EndValue, MergeBy};

@@ -4,3 +4,6 @@ pub mod Lines
 pub mod Report
 pub mod Limits
 pub mod Outcome
+pub mod Faults
+pub mod Refusals
+pub mod Modes

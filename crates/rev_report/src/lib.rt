@@ -5,11 +5,23 @@
 //! message that a revision was joined twice.
 #![tactic(auto)]
 
+mod code_fault;
+mod fault;
 mod limit;
+mod modes;
+mod order;
 mod outcome;
+mod refusal;
 mod report;
 pub mod status;
 
+pub use code_fault::{FileFault, InstructionFault};
+pub use fault::{Place, TextFault};
 pub use limit::Limit;
+pub use modes::{
+    accepted_report, agreed_report, done_report, reused_report, summary_report, trace_report,
+};
+pub use order::order_report;
 pub use outcome::{append_value, outcome_bytes};
+pub use refusal::{Refusal, no_memory_message, refusal_bytes};
 pub use report::Report;

@@ -7,8 +7,8 @@ use Rattle.rev_words.specs.declared.Mode.TheVariants as modes
 use Rattle.rev_words.specs.declared.Words.{Words}
 use Rattle.rev_report.specs.Report.{Output}
 use Rattle.rev_report.specs.Outcome.{report}
-use Rattle.rev_messages.specs.Refusals.{shown}
-use Rattle.rev_messages.specs.declared.refusal.Refusal.{Refusal}
+use Rattle.rev_report.specs.Refusals.{shown}
+use Rattle.rev_report.specs.declared.refusal.Refusal.{Refusal}
 use Rattle.rev_syntax.specs.Trees.{ProgramTree}
 use Rattle.rev_top.specs.Accepted.{Accepted, IsSound}
 use Rattle.mode_reports.specs.Answer.{Answer, Fits, RunsTo, Says, SaysAs, reads, reads_of}

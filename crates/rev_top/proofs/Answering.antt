@@ -11,9 +11,9 @@ use Rattle.rev_words.specs.declared.Words.{Words}
 use Rattle.rev_syntax.specs.Trees.{ProgramTree}
 use Rattle.rev_report.specs.Report.{Output}
 use Rattle.rev_report.specs.Outcome.{report}
-use Rattle.rev_messages.specs.Modes.{ordered, reused, summary, traced}
-use Rattle.rev_messages.specs.Refusals.{shown, status_of}
-use Rattle.rev_messages.specs.declared.refusal.Refusal.{Refusal}
+use Rattle.rev_report.specs.Modes.{ordered, reused, summary, traced}
+use Rattle.rev_report.specs.Refusals.{shown, status_of}
+use Rattle.rev_report.specs.declared.refusal.Refusal.{Refusal}
 use Rattle.mode_reports.specs.Stages.{Onward, Then}
 use Rattle.mode_reports.specs.Texts.{Checks}
 use Rattle.rev_code.specs.declared.code.Code.{Code}

@@ -5,8 +5,8 @@ use Rattle.rev_num.specs.Path.{Path}
 use Rattle.rev_words.specs.declared.Words.{Words}
 use Rattle.rev_syntax.specs.Trees.{ProgramTree}
 use Rattle.rev_parse.specs.SmallTree.{most_bytes}
-use Rattle.rev_messages.specs.declared.refusal.Refusal.{Refusal}
-use Rattle.rev_messages.specs.declared.refusal.Refusal.TheVariants as refusals
+use Rattle.rev_report.specs.declared.refusal.Refusal.{Refusal}
+use Rattle.rev_report.specs.declared.refusal.Refusal.TheVariants as refusals
 use Rattle.revision_calculus.specs.Kinded.{IsAccepted}
 use Rattle.trace_diagram.specs.Traces.{IsFirstFault, IsTextOf, IsTraceText}
 use Rattle.trace_diagram.specs.declared.diagram.Trace.{Trace}

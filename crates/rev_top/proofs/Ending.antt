@@ -4,8 +4,8 @@ use Rattle.std.specs.Prelude.{IfOk, Result}
 use Rattle.rev_io.specs.Stream.{Stream, Rose, Took, TookSome}
 use Rattle.rev_io.specs.declared.SinkFault.TheVariants as sink
 use Rattle.rev_io.proofs.Whole.{all_taken}
-use Rattle.rev_messages.specs.Refusals.{no_memory, refused as written, shown}
-use Rattle.rev_messages.specs.declared.refusal.Refusal.{Refusal}
+use Rattle.rev_report.specs.Refusals.{no_memory, refused as written, shown}
+use Rattle.rev_report.specs.declared.refusal.Refusal.{Refusal}
 use Rattle.rev_report.specs.Report.{Output, output}
 use Rattle.rev_report.specs.declared.report.Report.{Report}
 use Rattle.rev_report.specs.Status.{no_memory_status, write_fault_status}

@@ -19,7 +19,7 @@ use Rattle.static_rules.specs.Front as outcome
 use Rattle.static_rules.proofs.FunFaults.{funs_kept}
 use Rattle.static_rules.specs.Breaks.{BreaksNone}
 use Rattle.static_rules.proofs.Fronts.{has_one, none_broken, typed_where_none}
-use Rattle.rev_messages.specs.declared.refusal.Refusal.{Refusal}
+use Rattle.rev_report.specs.declared.refusal.Refusal.{Refusal}
 use Rattle.mode_reports.specs.declared.sizes.TheConstants.{SOURCE_LIMIT as source_limit}
 use Rattle.mode_reports.specs.Stages.{Onward}
 use Rattle.mode_reports.specs.Texts.{Checks, ChecksTokens, ChecksTree, Cuts, KeepsFuns, KeepsTypes, reading}

@@ -2,8 +2,8 @@
 use Rattle.std.proofs.Common.{◌≡◌, ◌∙◌, ◌<◌, ◌≤◌, ◌⊎◌, inl, inr, refl, sym, subst, ap, ℕ, List, arith}
 use Rattle.std.specs.Prelude.{Option, Some, None, Result, Ok, Err}
 use Rattle.rev_syntax.specs.Trees.{ProgramTree}
-use Rattle.rev_messages.specs.Refusals.{status_of}
-use Rattle.rev_messages.specs.declared.refusal.Refusal.{Refusal}
+use Rattle.rev_report.specs.Refusals.{status_of}
+use Rattle.rev_report.specs.declared.refusal.Refusal.{Refusal}
 use Rattle.revision_calculus.specs.Kinded.{IsAccepted}
 use Rattle.revision_calculus.proofs.FunKinds.{rules_kept}
 use Rattle.affine_check.specs.Affine.{Breach, copied, stored, used_twice, in_loop, Breakage, IsFirstBroken, number}

@@ -8,7 +8,7 @@ use Rattle.code_file.specs.Reads.{reading}
 use Rattle.code_listing.specs.Listing.{listing}
 use Rattle.code_verifier.specs.Verdicts.{KeepsRules}
 use Rattle.rev_report.specs.Report.{Output, done}
-use Rattle.rev_messages.specs.declared.refusal.Refusal.{Refusal}
+use Rattle.rev_report.specs.declared.refusal.Refusal.{Refusal}
 use Rattle.rev_words.specs.declared.Mode.{Mode}
 use Rattle.rev_words.specs.declared.Mode.TheVariants as modes
 use Rattle.rev_words.specs.declared.Words.{Words}

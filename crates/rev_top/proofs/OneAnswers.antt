@@ -15,10 +15,10 @@ use Rattle.rev_syntax.specs.declared.scan.LexFault.{LexFault}
 use Rattle.rev_parse.specs.Verdicts.{Verdict, tree, unexpected, too_deep}
 use Rattle.rev_report.specs.Report.{Output}
 use Rattle.rev_report.specs.Outcome.{report}
-use Rattle.rev_messages.specs.Modes.{accepted, ordered, reused, summary, traced}
-use Rattle.rev_messages.specs.Refusals.{shown}
-use Rattle.rev_messages.specs.declared.refusal.Refusal.{Refusal}
-use Rattle.rev_messages.specs.declared.refusal.Refusal.TheVariants as refusals
+use Rattle.rev_report.specs.Modes.{accepted, ordered, reused, summary, traced}
+use Rattle.rev_report.specs.Refusals.{shown}
+use Rattle.rev_report.specs.declared.refusal.Refusal.{Refusal}
+use Rattle.rev_report.specs.declared.refusal.Refusal.TheVariants as refusals
 use Rattle.revision_calculus.specs.Kinded.{IsAccepted}
 use Rattle.revision_calculus.proofs.Outcomes.{one_outcome}
 use Rattle.rev_code.specs.declared.code.Code.{Code}
@@ -36,8 +36,8 @@ use Rattle.mode_reports.specs.declared.sizes.TheConstants.{SOURCE_LIMIT as sourc
 use Rattle.mode_reports.specs.Schedules.{ReplaysCode}
 use Rattle.code_verifier.specs.Verdicts.{KeepsRules}
 use Rattle.code_machine_laws.proofs.Outcomes.{each_has_one}
-use Rattle.memo_runs.proofs.Making.{each_has_memo, each_is_reused}
-use Rattle.memo_runs.proofs.OneNumber.{one_reused}
+use Rattle.rev_record.proofs.Making.{each_has_memo, each_is_reused}
+use Rattle.rev_record.proofs.OneNumber.{one_reused}
 use Rattle.rev_top.specs.Statuses.{EndAlike, HasOneAnswer, IsOrder, OneAnswer}
 use Rattle.program_meaning.proofs.Outcomes.{of_code}
 use Rattle.mode_reports.specs.Traces.{Splits, text_of}

@@ -17,7 +17,7 @@ use Rattle.code_machine_laws.specs.Outcomes.{HasOutcome as HasCodeOutcome}
 use Rattle.code_machine_laws.proofs.Outcomes.{each_has_one}
 use Rattle.generated_blocks.proofs.Accepted.{code_accepted}
 use Rattle.code_machine_laws.specs.Texts.{NeverJoinsTwice, said}
-use Rattle.affine_code.specs.Never.{AffineCode}
+use Rattle.program_code.specs.Never.{AffineCode}
 use Rattle.affine_check.specs.Affine.{IsAffine}
 use Rattle.program_meaning.proofs.Outcomes.{of_program}
 use Rattle.revision_calculus.proofs.Outcomes.{one_outcome}

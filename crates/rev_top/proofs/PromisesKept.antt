@@ -5,7 +5,7 @@ use Rattle.std.specs.Prelude.{Option, Some, None, is_some}
 use Rattle.rev_io.specs.Stream.{Stream, GaveAtMost, Rose, Took, TookSome}
 use Rattle.rev_words.specs.Reading.{reading}
 use Rattle.rev_words.specs.declared.Words.{Words}
-use Rattle.rev_messages.specs.Refusals.{shown}
+use Rattle.rev_report.specs.Refusals.{shown}
 use Rattle.mode_reports.specs.Answer.{Answer, Answers, Takes, reads}
 use Rattle.thread_runs.specs.declared.ran.Ran.{Ran}
 use Rattle.rev_top.specs.Delivery.{Wrote, all_written, err_failed, no_room_at_err, no_room_at_out, out_failed}

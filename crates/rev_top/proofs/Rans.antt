@@ -12,10 +12,10 @@ use Rattle.rev_words.specs.declared.Words.{Words}
 use Rattle.rev_syntax.specs.Trees.{ProgramTree}
 use Rattle.rev_report.specs.Report.{Output, output}
 use Rattle.rev_report.specs.Outcome.{report}
-use Rattle.rev_messages.specs.Modes.{summary}
-use Rattle.rev_messages.specs.Refusals.{shown, status_of}
-use Rattle.rev_messages.specs.declared.refusal.Refusal.{Refusal}
-use Rattle.rev_messages.specs.declared.refusal.Refusal.TheVariants as refusals
+use Rattle.rev_report.specs.Modes.{summary}
+use Rattle.rev_report.specs.Refusals.{shown, status_of}
+use Rattle.rev_report.specs.declared.refusal.Refusal.{Refusal}
+use Rattle.rev_report.specs.declared.refusal.Refusal.TheVariants as refusals
 use Rattle.thread_runs.specs.declared.ran.Ran.{Ran}
 use Rattle.code_generation.specs.Generated.{code_of}
 use Rattle.revision_calculus.specs.Complete.{HasOutcome}

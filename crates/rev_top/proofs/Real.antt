@@ -11,7 +11,7 @@ use Rattle.typed_programs.specs.declared.fault.TypeFault.{TypeFault}
 use Rattle.typed_programs.specs.declared.fault.TypeFault.TheVariants as type
 use Rattle.static_rules.specs.Funs.{BreaksFun, unknown_fun, later_fun, other_arity}
 use Rattle.static_rules.specs.Breaks.{Breaks, unknown_variable, unknown_procedure, unknown_merge, declared_again, parameter_again, parameter_of_shared, let_again, other_kind, is_handle, other_right_side, other_constant, other_use, no_result, cumulative_kind, fun_parameter, fun_result, input_inside, inputs_inside, return_without, return_with, other_count, no_cells, no_return, locations, procedures, declared_funs, parameters, local_parameter, local_let, too_many_items, too_heavy}
-use Rattle.rev_messages.specs.declared.refusal.Refusal.{Refusal}
+use Rattle.rev_report.specs.declared.refusal.Refusal.{Refusal}
 use Rattle.mode_reports.specs.Texts.{report_of_funs, report_of_lexical, report_of_types}
 
 pub lexical_told : (text : List ℕ) (f : LexFault) → IsFirstFault text f

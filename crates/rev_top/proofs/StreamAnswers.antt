@@ -10,8 +10,8 @@ use Rattle.rev_words.specs.declared.Words.{Words}
 use Rattle.rev_words.specs.declared.fault.WordsFault.{WordsFault}
 use Rattle.rev_words.specs.declared.fault.WordsFault.TheVariants as faults
 use Rattle.rev_report.specs.Outcome.{report}
-use Rattle.rev_messages.specs.declared.refusal.Refusal.{Refusal}
-use Rattle.rev_messages.specs.declared.refusal.Refusal.TheVariants as refusals
+use Rattle.rev_report.specs.declared.refusal.Refusal.{Refusal}
+use Rattle.rev_report.specs.declared.refusal.Refusal.TheVariants as refusals
 use Rattle.rev_syntax.specs.Trees.{ProgramTree}
 use Rattle.affine_check.specs.Affine.{IsAffine}
 use Rattle.revision_calculus.specs.Complete.{HasOutcome}

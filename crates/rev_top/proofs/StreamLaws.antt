@@ -9,8 +9,8 @@ use Rattle.rev_words.specs.declared.Mode.TheVariants as modes
 use Rattle.rev_words.specs.declared.Words.{Words}
 use Rattle.rev_report.specs.Outcome.{report}
 use Rattle.rev_report.specs.Report.{Output}
-use Rattle.rev_messages.specs.Refusals.{shown}
-use Rattle.rev_messages.specs.declared.refusal.Refusal.{Refusal}
+use Rattle.rev_report.specs.Refusals.{shown}
+use Rattle.rev_report.specs.declared.refusal.Refusal.{Refusal}
 use Rattle.rev_syntax.specs.Trees.{ProgramTree}
 use Rattle.affine_check.specs.Affine.{IsAffine}
 use Rattle.revision_calculus.specs.Complete.{HasOutcome}

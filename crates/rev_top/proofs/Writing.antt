@@ -8,11 +8,11 @@ use Rattle.rev_words.specs.declared.Mode.TheVariants as modes
 use Rattle.rev_words.specs.declared.Words.{Words}
 use Rattle.rev_report.specs.Outcome.{report}
 use Rattle.rev_report.specs.Report.{Output}
-use Rattle.rev_messages.specs.Modes.{summary}
-use Rattle.rev_messages.specs.Refusals.{refused, shown}
-use Rattle.rev_messages.specs.declared.fault.TextFault.TheVariants as fault
-use Rattle.rev_messages.specs.declared.refusal.Refusal.{Refusal}
-use Rattle.rev_messages.specs.declared.refusal.Refusal.TheVariants as refusals
+use Rattle.rev_report.specs.Modes.{summary}
+use Rattle.rev_report.specs.Refusals.{refused, shown}
+use Rattle.rev_report.specs.declared.fault.TextFault.TheVariants as fault
+use Rattle.rev_report.specs.declared.refusal.Refusal.{Refusal}
+use Rattle.rev_report.specs.declared.refusal.Refusal.TheVariants as refusals
 use Rattle.rev_syntax.specs.Tokens.{IsFirstFault, IsTokens}
 use Rattle.rev_syntax.specs.Trees.{ProgramTree}
 use Rattle.rev_syntax.specs.declared.scan.LexFault.{LexFault}

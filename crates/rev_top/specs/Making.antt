@@ -6,8 +6,8 @@ use Rattle.rev_io.specs.Stream.{Stream}
 use Rattle.rev_words.specs.declared.Words.{Words}
 use Rattle.rev_report.specs.Report.{Output, output}
 use Rattle.rev_report.specs.declared.report.Report.{Report}
-use Rattle.rev_messages.specs.Refusals.{shown}
-use Rattle.rev_messages.specs.declared.refusal.Refusal.{Refusal}
+use Rattle.rev_report.specs.Refusals.{shown}
+use Rattle.rev_report.specs.declared.refusal.Refusal.{Refusal}
 use Rattle.rev_syntax.specs.Trees.{ProgramTree}
 use Rattle.code_generation.specs.Generated.{code_of}
 use Rattle.revision_calculus.specs.Complete.{HasOutcome}

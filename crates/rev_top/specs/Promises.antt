@@ -4,7 +4,7 @@ use Rattle.std.specs.Prelude.{ℕ, List, [], ◌≡◌, ◌<◌, ◌⊎◌, ◌+
 use Rattle.rev_io.specs.Stream.{Stream, GaveAtMost, Rose, Took, TookSome}
 use Rattle.rev_words.specs.declared.Words.{Words}
 use Rattle.rev_report.specs.Report.{Output}
-use Rattle.rev_messages.specs.Refusals.{no_memory, shown}
+use Rattle.rev_report.specs.Refusals.{no_memory, shown}
 use Rattle.rev_report.specs.Status.{no_memory_status, read_fault_status, refused_status, usage_status, write_fault_status}
 use Rattle.mode_reports.specs.Answer.{Answer, Says, reads}
 use Rattle.thread_runs.specs.declared.ran.Ran.{Ran}

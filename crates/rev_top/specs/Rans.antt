@@ -11,8 +11,8 @@ use Rattle.rev_words.specs.declared.Words.{Words}
 use Rattle.rev_report.specs.Report.{Output}
 use Rattle.rev_report.specs.Outcome.{report}
 use Rattle.rev_report.specs.Status.{no_memory_status}
-use Rattle.rev_messages.specs.Modes.{ordered, summary}
-use Rattle.rev_messages.specs.Refusals.{shown}
+use Rattle.rev_report.specs.Modes.{ordered, summary}
+use Rattle.rev_report.specs.Refusals.{shown}
 use Rattle.rev_syntax.specs.Trees.{ProgramTree}
 use Rattle.code_generation.specs.Generated.{code_of}
 use Rattle.thread_runs.specs.declared.ran.Ran.{Ran}

@@ -19,9 +19,9 @@ use Rattle.code_listing.specs.Listing.{listing}
 use Rattle.code_runs.specs.Schedules.{IsLegal}
 use Rattle.code_verifier.specs.Verdicts.{KeepsRules}
 use Rattle.rev_report.specs.Report.{Output, done}
-use Rattle.rev_messages.specs.Refusals.{shown}
+use Rattle.rev_report.specs.Refusals.{shown}
 use Rattle.rev_report.specs.Status.{refused_status, trapped_status, twice_status}
-use Rattle.rev_messages.specs.declared.refusal.Refusal.{Refusal}
+use Rattle.rev_report.specs.declared.refusal.Refusal.{Refusal}
 use Rattle.rev_syntax.specs.Trees.{ProgramTree}
 use Rattle.revision_calculus.specs.Complete.{HasOutcome}
 use Rattle.trace_diagram.specs.declared.diagram.Trace.{Trace}

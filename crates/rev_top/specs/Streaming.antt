@@ -7,7 +7,7 @@ use Rattle.rev_num.specs.declared.outcome.Outcome.{Outcome}
 use Rattle.rev_words.specs.declared.Words.{Words}
 use Rattle.rev_report.specs.Outcome.{report}
 use Rattle.rev_report.specs.Status.{no_memory_status}
-use Rattle.rev_messages.specs.Refusals.{shown}
+use Rattle.rev_report.specs.Refusals.{shown}
 use Rattle.rev_syntax.specs.Trees.{ProgramTree}
 use Rattle.revision_calculus.specs.Complete.{HasOutcome}
 use Rattle.world_streams.specs.declared.fault.StreamFault.{StreamFault}

@@ -6,8 +6,8 @@ use Rattle.rev_words.specs.Load.{load_text}
 use Rattle.rev_words.specs.Reading.{KeepsRanges, reading}
 use Rattle.rev_words.specs.declared.Mode.TheVariants as modes
 use Rattle.rev_words.specs.declared.Words.{Words}
-use Rattle.rev_messages.specs.Modes.{agreed}
-use Rattle.rev_messages.specs.Refusals.{shown}
+use Rattle.rev_report.specs.Modes.{agreed}
+use Rattle.rev_report.specs.Refusals.{shown}
 use Rattle.rev_syntax.specs.Trees.{ProgramTree}
 use Rattle.trace_diagram.specs.Traces.{IsTrace, IsWholeLines, trace_text}
 use Rattle.trace_diagram.specs.declared.diagram.Trace.{Trace}

@@ -14,8 +14,8 @@ use Rattle.rev_words.specs.declared.Words.{Words}
 use Rattle.rev_report.specs.Outcome.{report}
 use Rattle.rev_report.specs.Report.{Output, failed}
 use Rattle.rev_report.specs.declared.status.TheConstants.{REFUSED, USAGE}
-use Rattle.rev_messages.specs.Modes.{summary}
-use Rattle.rev_messages.specs.Refusals.{shown}
+use Rattle.rev_report.specs.Modes.{summary}
+use Rattle.rev_report.specs.Refusals.{shown}
 use Rattle.rev_syntax.specs.Places.{line_of, column_of}
 use Rattle.rev_syntax.specs.Tokens.{IsBadByte, IsBadNumber, IsOpenText, IsTokens, Stops}
 use Rattle.rev_syntax.specs.Trees.{ProgramTree}

@@ -3,8 +3,8 @@
 ghost use Rattle.std.specs.Prelude.{◌≡◌, false, Err, IfOk};
 ghost use Rattle.rev_io.specs.Stream.{Stream, Took, TookSome};
 ghost use Rattle.rev_num.specs.declared.outcome.Outcome.{Outcome as End};
-ghost use Rattle.rev_messages.specs.Refusals.{no_memory, shown};
-ghost use Rattle.rev_messages.specs.declared.refusal.Refusal.{Refusal as Refused};
+ghost use Rattle.rev_report.specs.Refusals.{no_memory, shown};
+ghost use Rattle.rev_report.specs.declared.refusal.Refusal.{Refusal as Refused};
 ghost use Rattle.rev_report.specs.Outcome.{report as report_of};
 ghost use Rattle.rev_report.specs.Report.{Output, output};
 ghost use Rattle.rev_report.specs.Status.{no_memory_status};
@@ -14,7 +14,7 @@ ghost use Rattle.mode_reports.specs.declared.stop.Stop.TheVariants as stops;
 
 use mode_reports::Stop;
 use rev_io::{Sink, SinkFault, write_all};
-use rev_messages::{no_memory_message, refusal_bytes};
+use rev_report::{no_memory_message, refusal_bytes};
 use rev_num::Outcome;
 use rev_report::{Report, outcome_bytes, status};
 use std::alloc::{AllocError, Global};

@@ -21,7 +21,7 @@ use hub_workers::Gate;
 use kernel_choices::choose_kernels;
 use merge_kernels::{Kernel, KernelPlan};
 use mode_reports::{Stop, checked};
-use rev_messages::{order_report, summary_report};
+use rev_report::{order_report, summary_report};
 use rev_report::outcome_bytes;
 use rev_words::{Words, load_text};
 use std::alloc::{AllocError, Global};

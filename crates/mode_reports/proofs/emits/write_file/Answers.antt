@@ -2,7 +2,7 @@
 use Rattle.std.proofs.Common.{◌∙◌, sym, subst}
 use Rattle.rev_syntax.specs.View.{program as whole}
 use Rattle.code_file.specs.Counts.{Counted}
-use Rattle.generated_files.proofs.Counting.{code_counted}
+use Rattle.program_code.proofs.Counting.{code_counted}
 use Rattle.mode_reports.proofs.emits.write_file.Goals as goal
 
 pub write_code-requires : goal.write_code-requires

@@ -3,7 +3,7 @@ use Rattle.std.proofs.Common.{◌∙◌, sym, subst, arith, true≢false}
 use Rattle.revision_machine.specs.Numbered.{paths_of}
 use Rattle.rev_vm.specs.Starts.{run_under}
 use Rattle.code_memos.specs.Leaf.{IsValid}
-use Rattle.leaf_entries.proofs.Adopting.{known_fits}
+use Rattle.rev_record.proofs.Adopting.{known_fits}
 use Rattle.rev_record.proofs.Known.{below, path_place}
 use Rattle.rev_record.proofs.Legs.{by_path, begins_at}
 use Rattle.rev_record.proofs.Repeated.{own_path, refuse_none, refuse_this, entry_here, take, there_at, births_few}

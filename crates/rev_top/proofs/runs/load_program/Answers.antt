@@ -2,7 +2,7 @@
 use Rattle.std.proofs.Common.{◌∙◌, ap}
 use Rattle.rev_syntax.specs.View.{program as whole}
 use Rattle.rev_report.specs.Report.{output}
-use Rattle.rev_messages.specs.Modes.{summary}
+use Rattle.rev_report.specs.Modes.{summary}
 use Rattle.rev_top.specs.Rans.{of_load}
 use Rattle.rev_top.proofs.Rans.{made_of}
 use Rattle.rev_top.proofs.runs.load_program.Goals as goal

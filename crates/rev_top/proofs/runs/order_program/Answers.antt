@@ -2,7 +2,7 @@
 use Rattle.std.proofs.Common.{◌∙◌, ap₂}
 use Rattle.rev_syntax.specs.View.{program as whole}
 use Rattle.rev_report.specs.Report.{output}
-use Rattle.rev_messages.specs.Modes.{ordered}
+use Rattle.rev_report.specs.Modes.{ordered}
 use Rattle.rev_top.specs.Rans.{of_order}
 use Rattle.rev_top.proofs.Rans.{made_of}
 use Rattle.rev_top.proofs.runs.order_program.Goals as goal

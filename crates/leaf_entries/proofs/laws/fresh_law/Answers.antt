@@ -1,6 +1,0 @@
--- Answers of fresh_law: its clause, with what a fresh revision begins, is a lemma.
-use Rattle.leaf_entries.proofs.Beginning.{fresh_begins}
-use Rattle.leaf_entries.proofs.laws.fresh_law.Goals as goal
-
-pub returns : goal.returns
-returns c = fresh_begins

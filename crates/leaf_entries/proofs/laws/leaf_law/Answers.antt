@@ -1,6 +1,0 @@
--- Answers of leaf_law: its clause, that the machine tells of the entry of a leaf revision, is a lemma.
-use Rattle.leaf_entries.proofs.Telling.{leaf_is_told}
-use Rattle.leaf_entries.proofs.laws.leaf_law.Goals as goal
-
-pub returns : goal.returns
-returns c = leaf_is_told

@@ -1,7 +1,0 @@
--- `inputs_read`: one position after another.
-use Rattle.version_map.specs.Deltas.{at}
-use Rattle.leaf_entries.specs.Words.{HasGiven}
-use Rattle.leaf_entries.proofs.reads.inputs_read.Given as goal
-
-abbrev pub invariant-loop-position : goal.invariant-loop-position
-invariant-loop-position l = HasGiven (at l.noted) l.inputs l.position l.read.items

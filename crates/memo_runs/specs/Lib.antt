@@ -1,5 +1,0 @@
--- Definitions of memo_runs: what is kept, leg by leg, of a run that is recorded or repeated; each run has a
--- memo, and one number of leaf revisions with a valid entry.
-pub mod SoFar
-pub mod Laws
-pub mod MemoLaws
