@@ -8,7 +8,7 @@ use native.Mathlib.Decide.{ℕ_discrete}
 use lib.ListN.{get_elem?}
 use Rattle.atomic_table.specs.Table as table
 use Rattle.atomic_table.proofs.Lists.{at_set, set_else}
-use Rattle.sparse_words.specs.Words.{blank, stepped}
+use Rattle.sparse_table.specs.Words.{blank, stepped}
 use Rattle.sparse_table.specs.declared.rule.Doing.{Doing}
 use Rattle.sparse_table.specs.Parts.{IsPart, IsInner, Stands, head_at, flag_at, total_of, client, seen, flag}
 use Rattle.sparse_table.specs.Parts.{Knows, Maker, State, Rules}

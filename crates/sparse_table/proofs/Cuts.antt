@@ -5,8 +5,8 @@ use mathlib.Core.Option.{some, some-injective}
 use lib.ListN.{get_elem?}
 use Rattle.atomic_table.specs.Table as table
 use Rattle.atomic_table.proofs.Lists.{at_set, at_map, at_snoc, at_longer, set_else}
-use Rattle.sparse_words.specs.Words as raw
-use Rattle.sparse_words.specs.Words.{blank}
+use Rattle.sparse_table.specs.Words as raw
+use Rattle.sparse_table.specs.Words.{blank}
 use Rattle.sparse_table.specs.declared.rule.Doing.{Doing}
 use Rattle.sparse_table.specs.Parts.{IsPart, Stands, client, seen, Knows, Maker, State, Rules, resting}
 use Rattle.sparse_table.specs.Plays.{settled}

@@ -13,8 +13,8 @@ use mathlib.Core.Option.{some}
 use native.Mathlib.Decide.{ℕ_discrete, dec_le}
 use Rattle.atomic_table.specs.Table as table
 use Rattle.atomic_table.proofs.Lists.{at_map}
-use Rattle.sparse_words.specs.Words as raw
-use Rattle.sparse_words.specs.Words.{blank}
+use Rattle.sparse_table.specs.Words as raw
+use Rattle.sparse_table.specs.Words.{blank}
 use Rattle.sparse_table.specs.declared.rule.Doing.{Doing}
 use Rattle.sparse_table.specs.Parts.{IsPart, IsInner, head_at, flag_at, total_of, client, seen, State, Rules}
 use Rattle.sparse_table.specs.Ended.{part_of, word_in, words_in, Ending, AreLast}

@@ -5,7 +5,7 @@ use Rattle.std.proofs.Common.{get_or-set_same}
 use Rattle.std.specs.Prelude.{replicate}
 use Rattle.std.proofs.lemmas.List.{ext_get_or}
 use lib.ListN.{length-replicate}
-use Rattle.sparse_words.specs.Words.{laid}
+use Rattle.sparse_table.specs.Words.{laid}
 
 pub laid_else : (xs ns : List ℕ) (from j : ℕ) → (j < from) ⊎ (from + length xs ≤ j) → get_or (laid ns from xs) j 0 ≡
     get_or ns j 0

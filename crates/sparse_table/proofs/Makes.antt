@@ -9,9 +9,9 @@ use mathlib.Core.Option.{some, some-injective}
 use native.Mathlib.Decide.{ℕ_discrete, dec_le}
 use Rattle.atomic_table.specs.Table as table
 use Rattle.atomic_table.proofs.Lists.{at_map, at_set, set_here, set_else, set_again}
-use Rattle.sparse_words.specs.Words as raw
-use Rattle.sparse_words.specs.Words.{blank, away, laid}
-use Rattle.sparse_words.proofs.Moves.{set_same}
+use Rattle.sparse_table.specs.Words as raw
+use Rattle.sparse_table.specs.Words.{blank, away, laid}
+use Rattle.sparse_table.proofs.Moves.{set_same}
 use Rattle.sparse_table.specs.declared.rule.Doing.{Doing}
 use Rattle.sparse_table.specs.Parts.{IsPart, IsInner, Stands, head_at, flag_at, total_of, client, seen, Knows}
 use Rattle.sparse_table.specs.Parts.{Maker, State, Rules, aimed, knowing}

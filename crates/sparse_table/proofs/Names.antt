@@ -1,6 +1,6 @@
 -- A seat is of the table that has its name.
 use Rattle.std.proofs.Common.{◌≡◌, ℕ, List, [], ◌∷◌, ap}
-use Rattle.sparse_words.specs.Owned.{WordsId}
+use Rattle.sparse_table.specs.Owned.{WordsId}
 use Rattle.sparse_table.specs.declared.table.Table.{Table}
 use Rattle.sparse_table.specs.declared.table.Seat.{Seat}
 use Rattle.sparse_table.specs.Seats.{IsOf, IsStill, IsSame, table_name, seat_name}

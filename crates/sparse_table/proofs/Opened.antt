@@ -9,7 +9,7 @@ use mathlib.Core.Option.{some, some-injective, some-ne-none}
 use native.Mathlib.Decide.{ℕ_discrete, dec_le}
 use lib.ListN.{get_elem?, length-replicate}
 use Rattle.atomic_table.specs.Table as table
-use Rattle.sparse_words.specs.Words.{blank, laid, opening}
+use Rattle.sparse_table.specs.Words.{blank, laid, opening}
 use Rattle.sparse_table.specs.Parts.{IsPart, head_at, flag_at, seen, Knows, Rules, resting}
 use Rattle.sparse_table.specs.Ended.{first_words}
 use Rattle.sparse_table.proofs.Laid.{laid_long, laid_same, laid_apart, rep_at}

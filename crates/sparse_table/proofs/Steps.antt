@@ -5,8 +5,8 @@ use mathlib.Core.Option as maybe
 use lib.ListN.{get_elem?}
 use Rattle.atomic_table.specs.Table as table
 use Rattle.atomic_table.proofs.Lists.{at_map}
-use Rattle.sparse_words.specs.Words as raw
-use Rattle.sparse_words.specs.Words.{blank}
+use Rattle.sparse_table.specs.Words as raw
+use Rattle.sparse_table.specs.Words.{blank}
 use Rattle.sparse_table.specs.declared.rule.Doing.{Doing}
 use Rattle.sparse_table.specs.Parts.{IsPart, IsInner, Has, head_at, client, seen, State, Rules}
 use Rattle.sparse_table.specs.Plays.{UserSat, UserThen, PartAt, mine, settled, told_at, head_told, inner_told}

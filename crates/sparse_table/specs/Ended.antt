@@ -7,7 +7,7 @@ use Rattle.std.specs.Prelude.{◌≡◌, ℕ, ◌-◌, ◌%◌, ◌<◌, ◌≤�
 use Rattle.std.specs.Prelude.{replicate, slice_set}
 use Rattle.std.specs.List.{range_with_len}
 use Rattle.atomic_table.specs.Table as table
-use Rattle.sparse_words.specs.Words.{blank}
+use Rattle.sparse_table.specs.Words.{blank}
 use Rattle.sparse_table.specs.Parts.{IsPart, head_at, flag_at}
 
 abbrev pub first_words : ℕ → ℕ → List ℕ

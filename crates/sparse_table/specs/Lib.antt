@@ -1,5 +1,7 @@
--- Definitions of sparse_table: a table of atomic words in parts, of which the memory is written when a
--- part is first wanted.
+-- Definitions of sparse_table: atomic words of which some are not there yet, and a table of them in parts, of
+-- which the memory is written when a part is first wanted.
+pub mod Words
+pub mod Owned
 pub mod Parts
 pub mod Plays
 pub mod Seats

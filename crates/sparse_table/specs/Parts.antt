@@ -11,8 +11,8 @@ use Rattle.std.specs.Prelude.{[], ◌∷◌, map, length, slice_index}
 use mathlib.Core.Option.{some}
 use lib.ListN.{get_elem?}
 use Rattle.atomic_table.specs.Table as table
-use Rattle.sparse_words.specs.Words as raw
-use Rattle.sparse_words.specs.Words.{blank}
+use Rattle.sparse_table.specs.Words as raw
+use Rattle.sparse_table.specs.Words.{blank}
 use Rattle.sparse_table.specs.declared.rule.Trail.{Trail}
 use Rattle.sparse_table.specs.declared.rule.Doing.{Doing}
 

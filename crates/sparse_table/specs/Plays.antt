@@ -2,7 +2,7 @@
 use Rattle.std.specs.Prelude.{◌≡◌, ℕ, ◌-◌, ◌^◌, ◌<◌, []}
 use mathlib.Core.Option as maybe
 use Rattle.atomic_table.specs.Table as table
-use Rattle.sparse_words.specs.Words as raw
+use Rattle.sparse_table.specs.Words as raw
 use Rattle.sparse_table.specs.declared.rule.Doing.{Doing}
 use Rattle.sparse_table.specs.Parts.{IsPart, head_at, flag_at, doing, aimed, knowing}
 

@@ -1,11 +1,11 @@
 //! A table at its end.
 ghost use Rattle.std.specs.Prelude.{◌≡◌, ℕ, ◌+◌, ◌*◌, ◌%◌, ◌^◌, ◌<◌, ◌≤◌};
 ghost use Rattle.std.specs.Prelude.{length, slice_index, false};
-ghost use Rattle.sparse_words.specs.Words.{blank};
+ghost use Rattle.sparse_table.specs.Words.{blank};
 ghost use Rattle.sparse_table.specs.Parts.{total_of};
 ghost use Rattle.sparse_table.specs.Ended.{Ending};
 
-use sparse_words::{Right, Span};
+use crate::span::{Right, Span};
 use std::alloc::Global;
 use std::mem::ManuallyDrop;
 

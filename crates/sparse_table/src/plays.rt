@@ -4,7 +4,7 @@ ghost use Rattle.sparse_table.specs.Parts.{doing, resting};
 
 use crate::rule::Doing;
 use atomic_table::{Join, Split};
-use sparse_words::Play;
+use crate::words::Play;
 use std::marker::PhantomData;
 
 /// A step of the user's on the first word of a part.

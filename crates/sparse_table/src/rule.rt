@@ -3,7 +3,7 @@ ghost use Rattle.std.specs.Prelude.{ℕ, List, Bool};
 ghost use Rattle.std.specs.Borrow.{ftrue};
 ghost use Rattle.atomic_table.specs.Table.{State};
 
-use sparse_words::WordRule;
+use crate::words::WordRule;
 use std::marker::{Model, PhantomData};
 
 /// V is what a seat knows, and K what the table is told once, when it is made. A part is named by the

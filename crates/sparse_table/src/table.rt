@@ -4,12 +4,13 @@ ghost use Rattle.sparse_table.specs.Parts.{total_of};
 
 use crate::closed::Closed;
 use crate::rule::{Doing, Law, PartRule, Shape};
+use crate::span::{Right, Span};
+use crate::words::Words;
 use crate::zeros::write_zeros;
-use sparse_words::{Right, Span, Words};
 use std::alloc::{AllocError, Global};
 
 /// A seat of the words below a table. Its view is the user's, with the trail.
-pub type Pass<V> = sparse_words::Seat<Doing<V>>;
+pub type Pass<V> = crate::words::Seat<Doing<V>>;
 
 /// Words in parts of one width. The first word of each part is there from the start.
 pub struct Table<V, K, P: PartRule<V, K>> {

@@ -1,9 +1,9 @@
 //! Words that become 0.
 ghost use Rattle.std.specs.Prelude.{◌≡◌, ℕ, ◌+◌, ◌<◌, ◌≤◌, ◌^◌};
 ghost use Rattle.std.specs.Prelude.{length, replicate, slice_index};
-ghost use Rattle.sparse_words.specs.Words.{blank, laid};
+ghost use Rattle.sparse_table.specs.Words.{blank, laid};
 
-use sparse_words::Span;
+use crate::span::Span;
 
 // Writes 0 to so many words from this one on, of which none is away.
 pub(crate) fn write_zeros(span: &mut Span, from: usize, count: usize)

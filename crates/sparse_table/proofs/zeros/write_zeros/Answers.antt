@@ -1,7 +1,7 @@
 -- Answers of write_zeros: one word more is 0.
 use Rattle.std.proofs.Common.{◌≡◌, ℕ, suc, ◌+◌, ◌<◌, ◌≤◌, inr, List, length, get_or, set, sym, ap, ◌∙◌, subst, arith}
 use Rattle.std.specs.Prelude.{replicate}
-use Rattle.sparse_words.specs.Words.{blank, laid}
+use Rattle.sparse_table.specs.Words.{blank, laid}
 use Rattle.sparse_table.proofs.Laid.{laid_long, laid_apart, laid_more}
 use Rattle.sparse_table.proofs.zeros.write_zeros.Goals as goal
 

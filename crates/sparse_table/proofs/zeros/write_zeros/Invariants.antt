@@ -1,7 +1,7 @@
 -- Invariants of write_zeros: the first of these words are 0, and all others as at the start.
 use Rattle.std.proofs.Common.{◌≡◌}
 use Rattle.std.specs.Prelude.{replicate}
-use Rattle.sparse_words.specs.Words.{laid}
+use Rattle.sparse_table.specs.Words.{laid}
 use Rattle.sparse_table.proofs.zeros.write_zeros.Given as goal
 
 abbrev pub invariant-loop-k : goal.invariant-loop-k

@@ -1,6 +1,6 @@
 -- Answers of Table::add_head: the words allow the step where the user's rule does.
 use Rattle.std.proofs.Common.{ℕ, ◌+◌, ◌%◌, ◌^◌, arith}
-use Rattle.sparse_words.proofs.Fields.{small_sum}
+use Rattle.sparse_table.proofs.Fields.{small_sum}
 use Rattle.sparse_table.proofs.Steps.{head_told_at, part_at, told_rests, told_trail, told_user}
 use Rattle.sparse_table.proofs.table.Table.add_head.Goals as goal
 

@@ -2,7 +2,7 @@
 use Rattle.std.proofs.Common.{◌≡◌, ℕ, ◌+◌, ◌-◌, List, length, sym, ap, ◌∙◌, subst, arith, rules}
 use Rattle.std.specs.Prelude.{replicate}
 use lib.ListN.{length-replicate}
-use Rattle.sparse_words.specs.Words as raw
+use Rattle.sparse_table.specs.Words as raw
 use Rattle.sparse_table.specs.declared.rule.Doing.{Doing}
 use Rattle.sparse_table.specs.Parts.{Rules, aimed}
 use Rattle.sparse_table.specs.Plays.{entered}

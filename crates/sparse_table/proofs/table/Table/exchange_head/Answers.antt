@@ -1,7 +1,7 @@
 -- Answers of Table::exchange_head: the words allow the step where the user's rule does.
 use Rattle.std.proofs.Common.{ℕ, eqb, arith, rules}
 use prog.Atomic.{either}
-use Rattle.sparse_words.proofs.Fields.{either_small}
+use Rattle.sparse_table.proofs.Fields.{either_small}
 use Rattle.sparse_table.proofs.Steps.{head_told_at, part_at, told_rests, told_trail, told_user}
 use Rattle.sparse_table.proofs.table.Table.exchange_head.Goals as goal
 

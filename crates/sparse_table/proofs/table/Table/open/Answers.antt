@@ -2,7 +2,7 @@
 use Rattle.std.proofs.Common.{◌≡◌, ℕ, ◌+◌, ◌*◌, ◌/◌, ◌^◌, List, [], length, get_or, set, sym, refl, ap, ◌∙◌}
 use Rattle.std.proofs.Common.{subst, arith, rules, length-set, get_or-set_other}
 use Rattle.std.specs.Prelude.{replicate}
-use Rattle.sparse_words.specs.Words.{blank, laid, opening}
+use Rattle.sparse_table.specs.Words.{blank, laid, opening}
 use Rattle.sparse_table.specs.Parts.{Rules, resting}
 use Rattle.sparse_table.proofs.Opened.{bare_words, started, bare_long, started_long, blank_at, zero_at, opened}
 use Rattle.sparse_table.proofs.table.Table.open.Goals as goal

@@ -2,8 +2,8 @@
 use Rattle.std.proofs.Common.{◌≡◌, ℕ, ◌+◌, ◌-◌, ◌%◌, ◌^◌, ◌<◌, subst, arith, rules}
 use mathlib.Core.Option as maybe
 use Rattle.atomic_table.specs.Table as table
-use Rattle.sparse_words.specs.Words as raw
-use Rattle.sparse_words.proofs.Fields.{small_sum}
+use Rattle.sparse_table.specs.Words as raw
+use Rattle.sparse_table.proofs.Fields.{small_sum}
 use Rattle.sparse_table.specs.Parts.{Rules, head_at}
 use Rattle.sparse_table.specs.Plays.{PartAt, mine, told_at}
 use Rattle.sparse_table.proofs.Steps.{head_told_at, part_at, told_rests, told_trail, told_user}
