@@ -4,7 +4,7 @@ pub mod Known
 pub mod Legs
 pub mod Recorded
 pub mod Repeated
-pub mod Ending
+pub mod RunEnds
 pub mod Lists
 pub mod Words
 pub mod Beginning
@@ -18,5 +18,5 @@ pub mod Loops
 pub mod Leaves
 pub mod Keeping
 pub mod Deciding
-pub mod Making
+pub mod MemoExists
 pub mod OneNumber

@@ -36,7 +36,7 @@ use Rattle.mode_reports.specs.declared.sizes.TheConstants.{SOURCE_LIMIT as sourc
 use Rattle.mode_reports.specs.Schedules.{ReplaysCode}
 use Rattle.code_verifier.specs.Verdicts.{KeepsRules}
 use Rattle.code_machine_laws.proofs.Outcomes.{each_has_one}
-use Rattle.rev_record.proofs.Making.{each_has_memo, each_is_reused}
+use Rattle.rev_record.proofs.MemoExists.{each_has_memo, each_is_reused}
 use Rattle.rev_record.proofs.OneNumber.{one_reused}
 use Rattle.rev_top.specs.Statuses.{EndAlike, HasOneAnswer, IsOrder, OneAnswer}
 use Rattle.program_meaning.proofs.Outcomes.{of_code}

@@ -13,8 +13,8 @@ mod plays;
 mod rule;
 mod seats;
 mod span;
-mod steps;
 mod table;
+mod word_steps;
 mod words;
 mod zeros;
 

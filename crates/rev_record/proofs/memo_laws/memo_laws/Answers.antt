@@ -1,5 +1,5 @@
 -- Answers of memo_laws: three lemmas, that each run has a memo, that each list is reused, and by one number.
-use Rattle.rev_record.proofs.Making.{each_has_memo, each_is_reused}
+use Rattle.rev_record.proofs.MemoExists.{each_has_memo, each_is_reused}
 use Rattle.rev_record.proofs.OneNumber.{one_reused}
 use Rattle.rev_record.proofs.memo_laws.memo_laws.Goals as goal
 

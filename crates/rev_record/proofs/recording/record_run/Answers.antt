@@ -1,7 +1,7 @@
 -- Answers of record_run: nothing is recorded at first, each leg keeps the record, and at the end it is the run's memo.
 use Rattle.rev_vm.specs.Starts.{run_under}
 use Rattle.rev_record.proofs.Legs.{reached_from}
-use Rattle.rev_record.proofs.Ending.{first_world, from_start, recorded_first, after_it, kept_distinct, memo_of_run}
+use Rattle.rev_record.proofs.RunEnds.{first_world, from_start, recorded_first, after_it, kept_distinct, memo_of_run}
 use Rattle.rev_record.proofs.recording.record_run.Goals as goal
 
 pub finish_by-requires-clause-reached : goal.finish_by-requires-clause-reached

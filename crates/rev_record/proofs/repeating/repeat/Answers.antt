@@ -1,7 +1,7 @@
 -- Answers of repeat: nothing is counted at first, each leg keeps the count, and at the end it is the run's.
 use Rattle.rev_vm.specs.Starts.{run_under}
 use Rattle.rev_record.proofs.Legs.{reached_from}
-use Rattle.rev_record.proofs.Ending.{first_world, from_start, repeated_first, after_it, reuses}
+use Rattle.rev_record.proofs.RunEnds.{first_world, from_start, repeated_first, after_it, reuses}
 use Rattle.rev_record.proofs.repeating.repeat.Goals as goal
 
 pub finish_by-requires-clause-reached : goal.finish_by-requires-clause-reached
