@@ -319,6 +319,7 @@ module _ (last_place last_rank : ℕ) where
     abbrev behind_use : Name → Expression → List ℕ → Bool
     behind_use n x later = after_use last_place last_rank n (named n x) later
 
+    -- where an expression uses a handle twice, or once before a later use, some handle has a use behind its use here
     use_complete : (l : Locals) (x : Expression) (K : Name → List ℕ) → Holds (twice_in (expression_twice l x K))
         → SomeHandle l (λ n. behind_use n x (K n))
     use_complete l (placed at (int z)) K h = never h
@@ -443,6 +444,7 @@ module _ (last_place last_rank : ℕ) where
         ap (λ o. meets last_place last_rank (misused first o n rest)) is
         ∙ misuse last_place last_rank n first rest later none
 
+    -- where a trail finds a name misused, that name is of a handle
     pub misuse_of : (first : Bool) (m : Option (Option ValueKind)) (n : Name) (rest : Statements)
         → Holds (meets last_place last_rank (misused first m n rest)) → m ≡ Some (Some k.Rev)
     misuse_of first m n rest h = is_rev m (by (is_handle m) h)

@@ -1,4 +1,4 @@
-//! The code of blocks.
+//! The code of a block of statements, with that of each form: lets, lines, branches, arms and loops.
 
 ghost use Rattle.std.specs.Prelude.{◌≡◌, ◌<◌, ◌+◌, ◌^◌, ◌++◌, IfOk, OnOk, length, map, nat_lt};
 ghost use Rattle.std.specs.Prelude.{◌||◌};

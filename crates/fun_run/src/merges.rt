@@ -26,6 +26,7 @@ pub struct BlockMerges<'a> {
     table: Vec<Variable>,
     blocks: Vec<Option<u16>>,
     words: Vec<u64>,
+    // The memory that an instruction may name; a merge block reads no location, so its words are blank.
     memory: Memory<Whole>,
     ghost sound: { KeepsRules code.now },
     ghost accepted: { IsAccepted code.now (notes_of code.now) },

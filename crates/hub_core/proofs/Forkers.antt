@@ -43,7 +43,7 @@ forkers_born ps fs k j r are here = record {
 }
 
 module _ {A : Type 0} where
-  -- two revisions put anew
+  -- where the entries of two revisions are put anew, each at its path, the paths are the same
   paths_twice : (w : List (Path × A)) (n m : ℕ) (r q : Path) (a b e f : A) → at_number w n ≡ Some (r, a)
       → at_number w m ≡ Some (q, b) → paths_of (put_number (put_number w n (r, e)) m (q, f)) ≡ paths_of w
   paths_twice w n m r q a b e f here there = dite (ℕ_discrete n m)

@@ -231,8 +231,8 @@ impl<R, A, E> Records<R, A, E> {
         true
     }
 
-    /// A joiner that a seat had waits for the end of the revision `on`. It comes back for want of
-    /// memory, which is taken only where there is no place of that number.
+    /// A joiner that a seat had waits for the end of the revision `on`. For want of memory it comes
+    /// back, and the records are as they were.
     pub fn keep(&mut self, number: u32, at: A, on: u32) -> Result<(), A>
         requires out { record_at self.old.list.items number ≡ Some Out }
         requires queue { number < length self.old.queue.links.items }

@@ -34,7 +34,8 @@ pub struct View<S> {
     // 1 once it saw that all is over, and the halt that it knows of.
     pub saw: u64,
     pub halt: HubState,
-    // What it found at the moment of its last turn or round: of each revision, of halts, and the schedule.
+    // What it found at the moment of its last turn or round: of each revision, of halts, and the
+    // schedule.
     pub said: LinkedList<Said>,
     pub entered: HubState,
     pub found: LinkedList<u64>,

@@ -5,7 +5,7 @@
 -- text, then the trace behind it, then its audit; or the text, then the schedule, then the run; or
 -- the text, then what is written of the program. `Says` is the answer to words and bytes: usage,
 -- then the length, then the mode; `Answers` is the same of a source, which may fail. What is handed
--- out of a run by threads stands in `Rans`.
+-- out of a run by threads stands in `Rans` of `rev_top`.
 use Rattle.std.specs.Prelude.{ℕ, List, [], ◌≡◌, ◌≤◌, ◌<◌, ◌⊎◌, ◌+◌, false, length, Option, Some, None, Result, Ok, Err}
 use Rattle.rev_io.specs.Stream.{Stream, Gave, GaveAtMost, Rose}
 use Rattle.rev_num.specs.declared.outcome.Outcome.{Outcome}

@@ -1,4 +1,5 @@
-//! Prints.
+//! The step of a `print`: one line of the values and texts of its items, behind what the revision has
+//! printed.
 
 ghost use Rattle.std.specs.Prelude.{◌≡◌, ◌++◌, IfOk, OnOk, map};
 ghost use Rattle.std.specs.List.{flat_map, join_with_byte};

@@ -52,6 +52,7 @@ module _ (s : Setting) (well : IsAccepted s.program) where
       )
 
   module _ (cs : List Change) (j : ℕ) (c : Change) (less : j < length cs) (is : c ≡ get_or cs j c) where
+    -- the changes from the number `j` on begin with that one
     front : drop j cs ≡ c ∷ drop (j + 1) cs
     front = drop_more cs j c less ∙ ap (λ v. v ∷ drop (j + 1) cs) (sym is)
 

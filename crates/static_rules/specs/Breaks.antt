@@ -2,7 +2,7 @@
 --
 -- `Breaks`: a program breaks a rule, and this is the fault, in the order of the list in the language's
 -- reference; `array_named`: whether a name is that of an array; `IsFun`: a fun or a merge;
--- `parameters_of`: the declared parameters; `IsFirstBroken`: the broken rule at the least place.
+-- `IsFirstBroken`: the broken rule at the least place.
 use Rattle.std.specs.Prelude.{◌≡◌, ◌≢◌, ℕ, ◌+◌, ◌≤◌, ◌<◌, Bool, true, false, Option, Some, None, option_map, List, [], length}
 use Rattle.rev_num.specs.declared.value.ValueKind.{ValueKind}
 use Rattle.rev_num.specs.declared.value.ValueKind.TheVariants as k

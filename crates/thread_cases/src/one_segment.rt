@@ -1,3 +1,4 @@
+//! One segment of the plain store, step by step from its claim to the end of its last hold.
 ghost use Rattle.std.specs.Prelude.{◌≡◌, vec_len};
 
 use seg_core::{Applied, SegState, SegStep, apply, refs};

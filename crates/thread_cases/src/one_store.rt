@@ -1,3 +1,4 @@
+//! Threads at one store: what they read of what they forked from, and that no segment stays in use.
 ghost use Rattle.std.specs.Prelude.{◌≡◌, ◌≤◌, vec_len};
 ghost use Rattle.std.specs.Thread.{IsSync};
 ghost use Rattle.segment_store.specs.Names.{IsOf, IsSeatOf};

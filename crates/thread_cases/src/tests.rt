@@ -1,3 +1,4 @@
+//! Trees of revisions at one hub, by one thread and by two: joins, rounds, and want of memory.
 ghost use Rattle.std.specs.Prelude.{◌≡◌, IfOk, MatchBool, length};
 
 use crate::{Going, Node, Room, Tree, Way};

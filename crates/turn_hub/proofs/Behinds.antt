@@ -143,6 +143,7 @@ module _ {L R A E : Type 0} (d : HubMachine L R A E) (ends : E → L → Type 0)
       legal = λ log out lone slots fs now fit. behind_legal log out lone slots fs now;
     }
 
+    -- with its plan this desk can be entered: as many forks are planned as this one makes, and its child is `n`
     pub can_behind : HasPlan desk ds (lone_of b i) None → desk.plan.forks ≡ k
         → CanEnter d ends v desk (Some desk.plan.forks) (λ x. x ≡ n)
     can_behind plan forks =

@@ -35,6 +35,7 @@ use Rattle.turn_hub.proofs.Finding.{found_at, keeps_commit}
 use Rattle.turn_hub.proofs.Afters.{not_over, tied_in, saw_over, stands_now, moment, out_now, counted_below, rests_entered, after_of}
 
 module _ {L R A E : Type 0} (d : HubMachine L R A E) (ends : E → L → Type 0) where
+  -- what lies in the hub, revision by revision
   abbrev Slots : Type 0
   Slots = List (Status R A E)
 

@@ -192,9 +192,9 @@ impl<L: Revision> TurnHub<L> {
     }
 
     /// The end of the joinee, the join of it by `of`, which has taken that end in, and the fork of
-    /// `of`, whose child the seat takes. Where the seat keeps the joinee, and in most cases does so
-    /// since its last fork, this needs no turn. The child comes back where a halt was entered,
-    /// before or by this call.
+    /// `of`, whose child the seat takes. It goes by a round where that is possible, which takes no
+    /// turn, and else by the turn. The child comes back where a halt was entered, before or by this
+    /// call.
     pub fn fork_and_keep<W: Wait>(
         &self,
         rt: &W,

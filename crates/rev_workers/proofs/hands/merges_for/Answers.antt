@@ -9,6 +9,7 @@ use Rattle.rev_vm.specs.Starts.{run_under}
 use Rattle.rev_workers.specs.Plans.{planned}
 use Rattle.rev_workers.proofs.hands.merges_for.Goals as goal
 
+-- what holds of all in a list and of one more holds of all where that one is at its end
 one_more : {A : Type 0} (xs ys : List A) (x : A) (P : A → Type 0) → ys ≡ xs ++ x ∷ [] → All P xs → P x → All P ys
 one_more xs ys x P e all p = All-same P ys (xs ++ x ∷ []) e (All-push P xs x all p)
 
