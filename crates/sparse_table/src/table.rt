@@ -36,13 +36,19 @@ pub struct Seat<V> {
     ghost rests: { pass.view.trail.stage ≡ 0 },
 }
 
-// The greatest power of two that is at most this width, by its exponent.
+// How many places of first words there are for each part, at least. A place is two words, so these
+// are what a cache line of 64 bytes holds.
+const PLACES: usize = 4;
+
+// By how much an index is shifted to be the place of a first word: a power of two, by its exponent,
+// that goes into this width. A width of `PLACES` or more has that many places at least, and fewer
+// than twice as many.
 fn shift_of(width: usize) -> u32
     requires { 0 < width }
     ensures { (2 ^ result ≤ width) × (result < 64) }
 {
     let mut shift = 0;
-    while shift < 62 && width >> shift > 1 {
+    while shift < 62 && width >> shift >= 2 * PLACES {
         shift += 1;
     }
     shift
@@ -55,7 +61,8 @@ impl<V, K: Drop, P: PartRule<V, K>> Table<V, K, P> {
     ghost use Rattle.sparse_table.specs.Seats.{IsOf, view, number, known};
 
     /// A table of so many words in parts of this width, of which the word 0 is `first` and all others
-    /// are 0. No part is there. It writes two words for each part, and the word 0, and no other.
+    /// are 0. No part is there. It writes fewer than sixteen words for each part, two more, and the
+    /// word 0, and no other.
     pub fn open(
         alloc: Global,
         len: usize,
