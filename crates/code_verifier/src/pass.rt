@@ -13,8 +13,7 @@ use crate::operands::bad_operand;
 use crate::shapes::Shapes;
 use crate::spent::{Spent, applied, is_over_limit, with_one};
 use crate::stack::{Effect, effect_of};
-use code_rules::{Cost, Rule};
-use code_rules::is_value_class;
+use code_rules::{Cost, Rule, is_value_class};
 use rev_code::{Code, CodeBlock, Instr};
 use std::alloc::{AllocError, Global};
 

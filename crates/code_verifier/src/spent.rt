@@ -4,8 +4,7 @@ ghost use Rattle.std.specs.Prelude.{◌≡◌, ◌+◌, ◌*◌, ◌<◌, ◌^�
 ghost use Rattle.code_rules.specs.Pass as pass;
 ghost use Rattle.code_verifier.specs.Spending.{spend, is_over};
 
-use code_rules::Cost;
-use code_rules::is_value_class;
+use code_rules::{Cost, is_value_class};
 use rev_code::{CodeBlock, Instr};
 
 /// The greatest number of words on the stack, the greatest need of a fun that was applied, and the

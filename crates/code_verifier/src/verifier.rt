@@ -9,8 +9,7 @@ ghost use Rattle.code_verifier.specs.Verdicts.{AllSmall, IsPlace, IsRefusal, Kee
 use crate::fault::CodeFault;
 use crate::pass::{Scope, check_block};
 use crate::verified::Verified;
-use code_rules::{Fault, Rule};
-use code_rules::{is_small, names_well};
+use code_rules::{Fault, Rule, is_small, names_well};
 use rev_code::Code;
 use std::alloc::{AllocError, Global};
 

@@ -12,8 +12,8 @@ ghost use Rattle.mode_reports.specs.declared.stop.Stop.TheVariants as stops;
 
 use crate::stop::Stop;
 use merge_decl::expand_funs;
-use rev_report::{Place, Refusal, TextFault};
 use rev_parse::{SyntaxFault, parse};
+use rev_report::{Place, Refusal, TextFault};
 use rev_syntax::{LexFault, Program, Token, line_column, tokens};
 use rev_types::check;
 use std::alloc::Global;

@@ -17,8 +17,8 @@ ghost use Rattle.world_runs.specs.KeptByLegs.{KeepsOn};
 ghost use Rattle.rev_record.specs.Legs.{HasKept, IsFrom, IsRecorded, WasNoted};
 ghost use Rattle.rev_record.specs.Legs.{is_leaf as defined_leaf};
 
-use code_world::{FreshStart, LegAnswer, NotedLeg, World, fresh, leg, leg_noting};
 use crate::{LeafEntry, blank, make_entry};
+use code_world::{FreshStart, LegAnswer, NotedLeg, World, fresh, leg, leg_noting};
 use leg_run::{CodeSetting, ReadMarks};
 use std::alloc::{AllocError, Global};
 use version_map::MergeBy;

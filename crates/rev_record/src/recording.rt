@@ -10,10 +10,10 @@ ghost use Rattle.revision_machine.specs.Laws.{IsDistinct};
 ghost use Rattle.rev_record.specs.Entries.{paths};
 ghost use Rattle.rev_record.specs.Memos.{IsMemoOf, kept_in};
 
+use crate::LeafEntry;
 use crate::memo::Memo;
 use crate::recorder::Recorder;
 use code_world::World;
-use crate::LeafEntry;
 use leg_run::CodeSetting;
 use std::alloc::{AllocError, Global};
 use version_map::MergeBy;

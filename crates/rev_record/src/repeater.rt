@@ -16,9 +16,9 @@ ghost use Rattle.rev_record.specs.Legs.{IsFrom, IsRepeated, IsTaken, StandsFresh
 ghost use Rattle.rev_record.specs.Memos.{HasEntries};
 
 use crate::memo::Memo;
+use crate::{end_over, is_valid};
 use code_runs::path_of;
 use code_world::{FreshStart, LegAnswer, World, adopt, fresh, leg};
-use crate::{end_over, is_valid};
 use leg_run::CodeSetting;
 use std::alloc::{AllocError, Global};
 use version_map::{EndValue, MergeBy};

@@ -4,8 +4,8 @@ ghost use Rattle.std.specs.String.{string_bytes};
 ghost use Rattle.rev_report.specs.Report.{done, output};
 ghost use Rattle.rev_report.specs.Modes as spec;
 
-use rev_num::Outcome;
 use crate::{Report, outcome_bytes, status};
+use rev_num::Outcome;
 use std::alloc::{AllocError, Global};
 
 /// The report of a call that is done and writes these bytes.

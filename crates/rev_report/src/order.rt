@@ -4,8 +4,8 @@ ghost use Rattle.std.specs.List.{flat_map};
 ghost use Rattle.rev_report.specs.Report.{output};
 ghost use Rattle.rev_report.specs.Modes.{behind_comma, ordered, schedule_text};
 
-use rev_num::{Outcome, append_decimal};
 use crate::{Report, outcome_bytes};
+use rev_num::{Outcome, append_decimal};
 use std::alloc::{AllocError, Global};
 
 /// Appends each number with a comma in front of it.

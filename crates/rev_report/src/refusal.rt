@@ -7,8 +7,8 @@ ghost use Rattle.rev_report.specs.Refusals.{message, more_than, no_memory, refus
 
 use crate::code_fault::{FileFault, InstructionFault};
 use crate::fault::{Place, TextFault};
-use rev_num::{Path, append_path};
 use crate::{Limit, Report, status};
+use rev_num::{Path, append_path};
 use std::alloc::{AllocError, Global};
 
 /// Why a call is refused. Bytes, blocks, instructions and entries are counted from 0.

@@ -14,9 +14,8 @@ ghost use Rattle.mode_reports.specs.declared.stop.Stop.TheVariants as stops;
 
 use mode_reports::Stop;
 use rev_io::{Sink, SinkFault, write_all};
-use rev_report::{no_memory_message, refusal_bytes};
 use rev_num::Outcome;
-use rev_report::{Report, outcome_bytes, status};
+use rev_report::{Report, no_memory_message, outcome_bytes, refusal_bytes, status};
 use std::alloc::{AllocError, Global};
 use world_streams::StreamFault;
 

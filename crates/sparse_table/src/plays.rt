@@ -3,8 +3,8 @@ ghost use Rattle.sparse_table.specs.Plays.{head_told, head_cut, inner_told, begu
 ghost use Rattle.sparse_table.specs.Parts.{doing, resting};
 
 use crate::rule::Doing;
-use atomic_table::{Join, Split};
 use crate::words::Play;
+use atomic_table::{Join, Split};
 use std::marker::PhantomData;
 
 /// A step of the user's on the first word of a part.
