@@ -1,2 +1,2 @@
--- Proofs of rev_report: the commas of a schedule in the report that has its numbers.
+-- Proofs of rev_messages: refusals and their messages, and what the modes write beside an outcome.
 pub mod Commas
