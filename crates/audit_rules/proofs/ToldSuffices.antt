@@ -234,7 +234,7 @@ takes_shown s fuel r q l p = go (told_shown (places s) p.end)
         by (Some ph) true = refl
         by (Some ph) false = refl
 
--- ---- a part that can be taken has values of the kinds of its locations
+-- ---- a part that can be taken has values of their kinds
 
 -- each of these that has one of the places is of the kind there
 abbrev Fit : List (List ℕ) → List ValueKind → List Change → Type 0

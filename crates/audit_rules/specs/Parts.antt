@@ -53,7 +53,6 @@ abbrev pub cause_place : List (List ℕ) → Cause → List ℕ
 cause_place ps (cause.Merge n f) = place_at ps n
 cause_place ps _ = []
 
--- how it ended, where a trap in a merge has the place of its location; parts are made of ended revisions alone
 abbrev pub end_at : List (List ℕ) → Phase → PartEnd
 end_at ps done = part_end.Done
 end_at ps (trapped t) = part_end.Trapped t (cause_place ps t.cause)

@@ -1,4 +1,4 @@
--- Answers of Cells::give_up: the count is that of the references, so it may lose this one; the holder is in the table.
+-- Answers of Cells::give_up: the count is that of the references and at least 1, so it may lose this one.
 use Rattle.std.proofs.Common.{ℕ, suc, ◌<◌, [], ◌∷◌, map, refl, ap, ◌∙◌, arith, ⊎_elim, inr}
 use Rattle.seg_core.specs.declared.segment.Stage.TheVariants as stage
 use Rattle.seg_core.specs.Core.{Core, live, times}
