@@ -50,7 +50,12 @@ fn pair_up<L: Legs>(
     for _ in 0..count {
         let seat = take_last(seats);
         let hand = take_last(hands);
-        append(workers, Worker { seat, hand });
+        let worker = Worker {
+            seat,
+            hand,
+            apart: [0; 16],
+        };
+        append(workers, worker);
     }
 }
 
@@ -75,7 +80,11 @@ fn part<L: Legs>(
     let mut rest = workers;
     let count = rest.len();
     for _ in 0..count {
-        let Worker { seat, hand } = take_last(&mut rest);
+        let Worker {
+            seat,
+            hand,
+            apart: _,
+        } = take_last(&mut rest);
         append(seats, seat);
         append(hands, hand);
     }

@@ -14,6 +14,8 @@ use turn_hub::{HubSeat, TurnHub};
 pub struct Worker<L: Legs> {
     pub seat: HubSeat<L>,
     pub hand: L::Hand,
+    // Two cache lines that nobody reads or writes, so that no two workers write to one.
+    pub apart: [u64; 16],
 }
 
 // One thread's work, in place.
